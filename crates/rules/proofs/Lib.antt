@@ -1,0 +1,4 @@
+mod Named
+mod Reaches
+pub mod Readings
+mod Keys

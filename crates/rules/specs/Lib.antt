@@ -1,0 +1,15 @@
+pub mod Causes
+pub mod Words
+pub mod Reading
+pub mod Rows
+pub mod Evaluate
+pub mod Lookup
+pub mod Expand
+pub mod Refusals
+pub mod Tops
+pub mod Artefact
+pub mod Walk
+pub mod Build
+pub mod Reach
+pub mod Laws
+pub mod Worked

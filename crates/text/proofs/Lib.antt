@@ -1,0 +1,7 @@
+mod Means
+mod Trees
+mod Steps
+mod Numbers
+mod Scans
+mod Readers
+mod Shown
