@@ -62,48 +62,31 @@ fn items(rt: &LibcRuntime) -> Result<(), AnyError> {
     show(rt, "99999999999999999999", b"99999999999999999999")
 }
 
+// The same around a middle, shown.
+fn nested(
+    rt: &LibcRuntime,
+    label: &str,
+    times: usize,
+    front: &[u8],
+    middle: &[u8],
+    back: &[u8],
+) -> Result<(), AnyError> {
+    show(
+        rt,
+        label,
+        around(rt.alloc(), times, front, middle, back)?.as_slice(),
+    )
+}
+
 fn nesting(rt: &LibcRuntime) -> Result<(), AnyError> {
-    let heap = rt.alloc();
-    show(
-        rt,
-        "64 brackets",
-        around(heap, 64, b"(", b"", b")")?.as_slice(),
-    )?;
-    show(
-        rt,
-        "65 brackets",
-        around(heap, 65, b"(", b"", b")")?.as_slice(),
-    )?;
-    show(
-        rt,
-        "64 quotes",
-        around(heap, 64, b"'", b"x", b"")?.as_slice(),
-    )?;
-    show(
-        rt,
-        "65 quotes",
-        around(heap, 65, b"'", b"x", b"")?.as_slice(),
-    )?;
-    show(
-        rt,
-        "32 of each",
-        around(heap, 32, b"('", b"x", b")")?.as_slice(),
-    )?;
-    show(
-        rt,
-        "33 of each",
-        around(heap, 33, b"('", b"x", b")")?.as_slice(),
-    )?;
-    show(
-        rt,
-        "65 quotes at the end",
-        around(heap, 65, b"'", b"", b"")?.as_slice(),
-    )?;
-    show(
-        rt,
-        "64 lists side by side",
-        around(heap, 64, b"()", b"", b"()")?.as_slice(),
-    )?;
+    nested(rt, "64 brackets", 64, b"(", b"", b")")?;
+    nested(rt, "65 brackets", 65, b"(", b"", b")")?;
+    nested(rt, "64 quotes", 64, b"'", b"x", b"")?;
+    nested(rt, "65 quotes", 65, b"'", b"x", b"")?;
+    nested(rt, "32 of each", 32, b"('", b"x", b")")?;
+    nested(rt, "33 of each", 33, b"('", b"x", b")")?;
+    nested(rt, "65 quotes at the end", 65, b"'", b"", b"")?;
+    nested(rt, "64 lists side by side", 64, b"()", b"", b"()")?;
     show(rt, "ends inside a list", b"(a (b)")?;
     show(rt, "ends after a quote", b"a '")?;
     show(rt, "closes nothing", b"a )")?;
@@ -127,7 +110,7 @@ fn bytes(rt: &LibcRuntime) -> Result<(), AnyError> {
     Ok(())
 }
 
-pub fn both_sides(rt: &LibcRuntime) -> Result<(), AnyError> {
+pub(crate) fn both_sides(rt: &LibcRuntime) -> Result<(), AnyError> {
     items(rt)?;
     nesting(rt)?;
     bytes(rt)

@@ -8,19 +8,19 @@ use std::io::Stdin;
 
 /// What a command is read from.
 #[derive(Drop)]
-pub struct Input {
+pub(crate) struct Input {
     source: BufReader<Stdin>,
 }
 
 impl Input {
-    pub fn new(rt: &LibcRuntime) -> Input {
+    pub(crate) fn new(rt: &LibcRuntime) -> Input {
         Input {
             source: BufReader::new(rt.stdin()),
         }
     }
 
     /// The next line, without its line feed; nothing at the end of the input.
-    pub fn line(&mut self, heap: Global) -> io::Result<Option<Vec<u8>>> {
+    pub(crate) fn line(&mut self, heap: Global) -> io::Result<Option<Vec<u8>>> {
         let mut line = Vec::new(heap);
         if self.source.read_until(b'\n', &mut line)? == 0 {
             return Ok(None);
@@ -32,7 +32,7 @@ impl Input {
     }
 
     /// So many bytes, which a line feed ends; nothing where they are not all there, or where another byte stands in its place.
-    pub fn counted(&mut self, heap: Global, count: usize) -> io::Result<Option<Vec<u8>>> {
+    pub(crate) fn counted(&mut self, heap: Global, count: usize) -> io::Result<Option<Vec<u8>>> {
         let mut bytes = vec![in heap; 0u8; count]?;
         let mut end = [0u8];
         let whole = self.source.read_exact(bytes.as_mut_slice()).is_ok()

@@ -11,4 +11,4 @@ use Rattle.rules.specs.Worked.{Worked-keys}
 
 pub worked-keys : Worked-keys
 unfolding digits scan eval evals invoke quote-rows expand top walk expand-all
-worked-keys = (refl, (refl, (refl, (refl, (refl, (refl, (refl, (refl, (refl, (refl, (refl, (refl, (refl, (refl, tt))))))))))))))
+worked-keys = (refl, (refl, (refl, (refl, (refl, (refl, (refl, (refl, (refl, (refl, (refl, (refl, (refl, (refl, (refl, tt)))))))))))))))

@@ -88,6 +88,7 @@ worked =
     ∷ ran counting (codes "p1") (answers (codes "1\n", 2))
     ∷ ran counting (codes "p2") (answers (codes "1\n", 2))
     ∷ ran counting-from-ten (codes "p1") (answers (codes "11\n", 2))
+    ∷ ran counting-from-ten (codes "p2") (answers (codes "11\n", 2))
     ∷ built plain-require (codes "key") (refuses (placed Cause.NoMeaning (codes "key") 12))
     ∷ built shifted-require (codes "key") (answers (codes "require shift\na 1\nlevel kind name params rows\n0 macro m 1 1\nop text home base number\nvariable k a 1 -\n"))
     ∷ ran two-instances (codes "key") (answers (codes "1\n1\n", 9))

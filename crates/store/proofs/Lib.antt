@@ -1,0 +1,5 @@
+mod Firsts
+mod Looks
+mod Slottings
+mod Draftings
+mod Copies

@@ -1,0 +1,19 @@
+use mathlib.Core.Path.{refl, ap, _∙_}
+use Rattle.std.specs.Of.Vec.{vec-items}
+use Rattle.word.specs.declared.Word.{Word}
+use Rattle.table.proofs.Picked.{picked-one, picked-none, picked-all, under}
+use Rattle.table.proofs.order_tests.ModulesGraph.successors.Needs as need
+use Rattle.table.proofs.order_tests.ModulesGraph.successors.Needs.{then-same·in-Continue-push, else-same}
+
+pub loop-r-again : need.loop-r-again
+loop-r-again c =
+    elim (c .if-same .came) [
+      | then-same·in-Continue-push w ↦ ap vec-items (w .found-is) ∙ w .in-Continue-push .ensures tt .items ∙ picked-one _ (λ r. r .from) (c .args .self .now .needs .now) _ _ _ (c .loop-r-test .taken) (w .if-same .ensures tt) (c .loop-r .inv)
+      | else-same w ↦ ap vec-items (w .found-is) ∙ picked-none _ (λ r. r .from) (c .args .self .now .needs .now) _ _ _ (c .loop-r-test .taken) (w .if-same .ensures tt) (c .loop-r .inv)
+    ]
+
+pub returns : need.returns
+returns c = record {
+  opens = under Word _ _ _ _ _ _ (c .if-met-self .left) (picked-all _ (λ r. r .from) (c .args .self .now .needs .now) _ _ (c .loop-r-test .left) (c .loop-r .inv));
+  stays = refl;
+}
