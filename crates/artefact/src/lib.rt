@@ -1,5 +1,7 @@
 //! Expanded modules, and the bytes that record them.
 
+#![tactic(auto)]
+
 mod module;
 mod writer;
 

@@ -1,5 +1,7 @@
 //! The bytes that record expanded modules: an artefact is three tables of lines.
 
+#![tactic(auto)]
+
 mod definition;
 mod entry;
 mod fields;

@@ -1,5 +1,7 @@
 //! Expanded modules as they are kept, what they mean, and what they must be.
 
+#![tactic(auto)]
+
 mod module;
 mod whole;
 

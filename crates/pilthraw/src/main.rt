@@ -1,4 +1,6 @@
 //! The program: a console over standard input and output.
+
+#![tactic(auto)]
 use std::env;
 
 mod command;

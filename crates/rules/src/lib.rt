@@ -1,5 +1,7 @@
 //! The rules of the language, as definitions, and what is proved of them.
 
+#![tactic(auto)]
+
 mod cause;
 mod laws;
 mod primitive;

@@ -1,5 +1,7 @@
 //! The key table, and required-first order.
 
+#![tactic(auto)]
+
 mod key;
 mod key_table;
 mod keys;

@@ -1,5 +1,7 @@
 //! Words, data and texts: the lowest layer.
 
+#![tactic(auto)]
+
 mod data;
 mod item;
 mod reader;

@@ -13,5 +13,5 @@ returns-in-Some c =
 pub returns-in-Some-parse-number : goal.returns-in-Some-parse-number
 returns-in-Some-parse-number c =
     let h = c.in-Some-parse-number.ensures in
-    let k = c.in-default.ensures in
+    let k = c.in_default.ensures in
     (number c.in-Some-parse-number.n, number_item (home_of c.args.home) c.args.bytes.now _ k h, λ cs. ap Value.Number (search rules))

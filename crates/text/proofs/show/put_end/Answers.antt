@@ -6,4 +6,4 @@ returns-in-Empty c cs n d p m = ended_empty cs n c.args.value d _ _ c.in-Empty.i
 
 pub returns : goal.returns
 returns c cs n d p m =
-    ended_atom cs n c.args.value d _ _ _ _ p c.in-default.not-Empty c.in-ok-extend-from-slice.ensures.items (c.in-ok-put-atom.ensures cs n d p m) c.in-ok-push-2.ensures.items m
+    ended_atom cs n c.args.value d _ _ _ _ p c.in_default.not-Empty c.in-ok-extend-from-slice.ensures.items (c.in-ok-put-atom.ensures cs n d p m) c.in-ok-push-2.ensures.items m

@@ -4,8 +4,8 @@ use Rattle.std.proofs.lemmas.Bool.{false≢true}
 use Rattle.artefact_tables.proofs.Tables.{title_cut, title_other, title_uncut}
 use Rattle.artefact_tables.proofs.reader.Source.header.Goals as goal
 
-pub returns-in-default : goal.returns-in-default
-returns-in-default c l = title_uncut c.args.self.now.rest.now c.args.title.now c.in-default.ensures.cases l
+pub returns-in_default : goal.returns-in_default
+returns-in_default c l = title_uncut c.args.self.now.rest.now c.args.title.now c.in_default.ensures.cases l
 
 pub returns-then-not-is-text : goal.returns-then-not-is-text
 returns-then-not-is-text c l =
