@@ -1,6 +1,7 @@
 //! The program: a console over standard input and output.
 
 #![tactic(auto)]
+
 use std::env;
 
 mod command;

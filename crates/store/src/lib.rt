@@ -1,6 +1,7 @@
 //! Stores: bytes by name and kind, with one meaning for all of them.
 
 #![tactic(auto)]
+
 ghost use Rattle.std.specs.Prelude.{◌≡◌, ℕ, Bool, true, List, length, is_ok, Some, None, Option};
 ghost use Rattle.std.specs.Option.{option_map};
 ghost use Rattle.word.specs.Words.{spelling};

@@ -1,6 +1,7 @@
 //! Words, homes, and words at home.
 
 #![tactic(auto)]
+
 ghost use Rattle.std.specs.Prelude.{◌≡◌, true, false, length, codes, MatchOption};
 ghost use Rattle.std.specs.Str.{bytes_eq};
 ghost use Rattle.rules.specs.Words.{letter, item_byte, is_word, text_home};

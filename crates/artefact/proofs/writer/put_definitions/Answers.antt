@@ -7,7 +7,7 @@ use Rattle.artefact.proofs.writer.put_definitions.Goals as goal
 pub each-preserved : goal.each-preserved
 each-preserved c es m =
     let n = same_count c.args.definitions.now es m in
-    lines_more definition_line es c.each.definition-index no_definition (vec_items c.args.out.now) _ _ (omega (arith, n)) (c.each.invariant es m) (c.in-ok-put-definition.ensures _ (defines_at c.args.definitions.now es c.each.definition-index _ m c.each-test.true))
+    lines_more definition_line es c.each.definition-index no_definition (vec_items c.args.out.now) _ _ (omega (arith, n)) (c.each.invariant es m) (c.in_ok-put_definition.ensures _ (defines_at c.args.definitions.now es c.each.definition-index _ m c.each-test.true))
 
 pub returns : goal.returns
 returns c es m =

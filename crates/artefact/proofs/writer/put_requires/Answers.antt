@@ -8,4 +8,4 @@ returns c =
 
 pub each-preserved : goal.each-preserved
 each-preserved c =
-    lines_more require_line c.args.required.now c.each.require-index _ (vec_items c.args.out.now) _ _ c.each-test.true c.each.invariant c.in-ok-put-require.ensures
+    lines_more require_line c.args.required.now c.each.require-index _ (vec_items c.args.out.now) _ _ c.each-test.true c.each.invariant c.in_ok-put_require.ensures

@@ -10,4 +10,4 @@ returns c =
 
 pub each-preserved : goal.each-preserved
 each-preserved c =
-    lines_more (λ x. row_line (meant x)) c.args.rows.now c.each.row-index _ (vec_items c.args.out.now) _ _ c.each-test.true c.each.invariant c.in-ok-put-row.ensures
+    lines_more (λ x. row_line (meant x)) c.args.rows.now c.each.row-index _ (vec_items c.args.out.now) _ _ c.each-test.true c.each.invariant c.in_ok-put_row.ensures

@@ -4,25 +4,25 @@ use Rattle.artefact_tables.specs.Picks.{got_none, got_some, none_got, some_got}
 use Rattle.artefact_tables.specs.Heads.{no_kind, no_rows, no_stand, all_read}
 use Rattle.artefact_tables.proofs.definition.definition_from.Goals as goal
 
-pub returns-in-err-kind : goal.returns-in-err-kind
-returns-in-err-kind c =
+pub returns-in_err-kind : goal.returns-in_err-kind
+returns-in_err-kind c =
     let f = c.args.fields in
-    rw c.from-residual-in-err-kind.ensures (none_got Heads _ (no_kind f.first.now f.second.now f.third.now f.fourth.now f.fifth.now c.in-ok-level.level (sym c.in-ok-level.ensures) (got_none _ _ c.in-err-kind.ensures)))
+    rw c.from_residual-in_err-kind.ensures (none_got Heads _ (no_kind f.first.now f.second.now f.third.now f.fourth.now f.fifth.now c.in_ok-level.level (sym c.in_ok-level.ensures) (got_none _ _ c.in_err-kind.ensures)))
 
-pub returns-in-err-rows : goal.returns-in-err-rows
-returns-in-err-rows c =
+pub returns-in_err-rows : goal.returns-in_err-rows
+returns-in_err-rows c =
     let f = c.args.fields in
-    let k = got_some _ _ c.in-ok-kind.field-0 c.in-ok-kind.ensures in
-    rw c.from-residual-in-err-rows.ensures (none_got Heads _ (no_rows f.first.now f.second.now f.third.now f.fourth.now f.fifth.now c.in-ok-level.level (sym c.in-ok-level.ensures) k.0 k.1 (sym c.in-err-rows.ensures)))
+    let k = got_some _ _ c.in_ok-kind.field-0 c.in_ok-kind.ensures in
+    rw c.from_residual-in_err-rows.ensures (none_got Heads _ (no_rows f.first.now f.second.now f.third.now f.fourth.now f.fifth.now c.in_ok-level.level (sym c.in_ok-level.ensures) k.0 k.1 (sym c.in_err-rows.ensures)))
 
-pub returns-then-not-may-stand : goal.returns-then-not-may-stand
-returns-then-not-may-stand c =
+pub returns-then-not-may_stand : goal.returns-then-not-may_stand
+returns-then-not-may_stand c =
     let f = c.args.fields in
-    let k = got_some _ _ c.in-ok-kind.field-0 c.in-ok-kind.ensures in
-    none_got Heads _ (no_stand f.first.now f.second.now f.third.now f.fourth.now f.fifth.now c.in-ok-level.level (sym c.in-ok-level.ensures) k.0 k.1 c.in-ok-rows.rows (sym c.in-ok-rows.ensures) (sym (c.if-not-may-stand.ensures _ k.0 k.2)))
+    let k = got_some _ _ c.in_ok-kind.field-0 c.in_ok-kind.ensures in
+    none_got Heads _ (no_stand f.first.now f.second.now f.third.now f.fourth.now f.fifth.now c.in_ok-level.level (sym c.in_ok-level.ensures) k.0 k.1 c.in_ok-rows.rows (sym c.in_ok-rows.ensures) (sym (c.if-not-may_stand.ensures _ k.0 k.2)))
 
 pub returns : goal.returns
 returns c =
     let f = c.args.fields in
-    let k = got_some _ _ c.in-ok-kind.field-0 c.in-ok-kind.ensures in
-    some_got Heads _ _ _ (all_read f.first.now f.second.now f.third.now f.fourth.now f.fifth.now c.in-ok-level.level (sym c.in-ok-level.ensures) k.0 k.1 c.in-ok-rows.rows (sym c.in-ok-rows.ensures) (sym (c.if-not-may-stand.ensures _ k.0 k.2))) (record { level = refl; kind = k.2; rows = c.from.ensures })
+    let k = got_some _ _ c.in_ok-kind.field-0 c.in_ok-kind.ensures in
+    some_got Heads _ _ _ (all_read f.first.now f.second.now f.third.now f.fourth.now f.fifth.now c.in_ok-level.level (sym c.in_ok-level.ensures) k.0 k.1 c.in_ok-rows.rows (sym c.in_ok-rows.ensures) (sym (c.if-not-may_stand.ensures _ k.0 k.2))) (record { level = refl; kind = k.2; rows = c.from.ensures })

@@ -4,4 +4,4 @@ use Rattle.artefact_tables.proofs.line.put_five.Goals as goal
 
 pub returns : goal.returns
 returns c =
-    IfOk-weaker c.put-field-5.result _ _ (λ _ k. five_put _ _ _ _ _ _ c.args.a.now c.args.b.now c.args.c.now c.args.d.now c.args.e.now c.in-ok-put-field.ensures c.in-ok-put-field-2.ensures c.in-ok-put-field-3.ensures c.in-ok-put-field-4.ensures k) c.put-field-5.ensures
+    IfOk-weaker c.put_field-5.result _ _ (λ _ k. five_put _ _ _ _ _ _ c.args.a.now c.args.b.now c.args.c.now c.args.d.now c.args.e.now c.in_ok-put_field.ensures c.in_ok-put_field-2.ensures c.in_ok-put_field-3.ensures c.in_ok-put_field-4.ensures k) c.put_field-5.ensures

@@ -5,8 +5,8 @@ use Rattle.artefact_tables.proofs.reader.read.Goals as goal
 pub returns-in_default : goal.returns-in_default
 returns-in_default c p limits is = c.in_default.ensures.cases.0 (subst IsUtf8 is (artefact_text p limits))
 
-pub returns-then-not-is-empty : goal.returns-then-not-is-empty
-returns-then-not-is-empty c = ?
+pub returns-then-not-is_empty : goal.returns-then-not-is_empty
+returns-then-not-is_empty c = ?
 
 pub returns : goal.returns
 returns c = ?

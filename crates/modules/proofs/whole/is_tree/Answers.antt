@@ -6,8 +6,8 @@ pub returns-then-left-eq0 : goal.returns-then-left-eq0
 returns-then-left-eq0 c =
     tree_stop c.args.rows.now c.loop-row.row-index c.loop-row.left _ c.loop-row.invariant.0 c.loop-row-test.true c.if-left-eq0.true
 
-pub overflow-add-left : goal.overflow-add-left
-overflow-add-left c = omega (arith, c.children.ensures.bound, c.loop-row.invariant.1)
+pub overflow_add-left : goal.overflow_add-left
+overflow_add-left c = omega (arith, c.children.ensures.bound, c.loop-row.invariant.1)
 
 pub loop-row-preserved : goal.loop-row-preserved
 loop-row-preserved c = (

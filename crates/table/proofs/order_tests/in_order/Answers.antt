@@ -6,5 +6,5 @@ use Rattle.table.proofs.order_tests.in_order.Goals as goal
 
 pub returns : goal.returns
 returns c =
-    c.required-first.ensures.lawful
+    c.required_first.ensures.lawful
     (λ a b h. ap (λ s. map (λ q. q.from) (filter (λ q. bytes_eq (spelling q.by) s) c.args.needs.now)) ((bytes_eq-Decides (spelling a) (spelling b)).0 h))

@@ -10,7 +10,7 @@ use Rattle.table.proofs.table_tests.bind_twice.Goals as goal
 pub returns : goal.returns
 returns c =
     c.get.ensures
-    ∙ c.in-ok-set-2.ensures.cases.maps (record { word = c.args.word; level = 0 })
+    ∙ c.in_ok-set-2.ensures.cases.maps (record { word = c.args.word; level = 0 })
     ∙ ap (λ b. cond b (Some Macro) (mapping same_bound c.set.new.self (record { word = c.args.word; level = 0 }))) (and_right _ _ refl)
-    ∙ c.in-ok-set.ensures.cases.maps (record { word = c.args.word; level = 0 })
+    ∙ c.in_ok-set.ensures.cases.maps (record { word = c.args.word; level = 0 })
     ∙ ap (λ b. cond b (Some Procedure) (mapping same_bound c.new-table.result (record { word = c.args.word; level = 0 }))) (and_from _ _ (bytes.reflexive (spelling c.args.word)) refl)

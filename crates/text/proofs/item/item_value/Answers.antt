@@ -10,8 +10,8 @@ returns-in-Some c =
     let h = c.in-Some.ensures in
     (word c.args.bytes.now (home_of c.args.home), word_item _ _ h.0, λ cs. (_, refl, h.1, refl))
 
-pub returns-in-Some-parse-number : goal.returns-in-Some-parse-number
-returns-in-Some-parse-number c =
-    let h = c.in-Some-parse-number.ensures in
+pub returns-in-Some-parse_number : goal.returns-in-Some-parse_number
+returns-in-Some-parse_number c =
+    let h = c.in-Some-parse_number.ensures in
     let k = c.in_default.ensures in
-    (number c.in-Some-parse-number.n, number_item (home_of c.args.home) c.args.bytes.now _ k h, λ cs. ap Value.Number (search rules))
+    (number c.in-Some-parse_number.n, number_item (home_of c.args.home) c.args.bytes.now _ k h, λ cs. ap Value.Number (search rules))

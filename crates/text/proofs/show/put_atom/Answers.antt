@@ -7,17 +7,17 @@ use Rattle.text.proofs.show.put_atom.Goals as goal
 
 pub returns-in-Word : goal.returns-in-Word
 returns-in-Word c =
-    extended c.extend-from-slice-in-Word.result _ _ _ _ c.extend-from-slice-in-Word.ensures.items (λ _ e cs n d p m.
-    e ∙ ap (λ k. vec_items c.args.out.now ++ k) (c.as-bytes-in-Word.ensures ∙ word_shown cs n c.in-Word.name d (subst (λ (v : Value). Means cs n v d) c.in-Word.is m)))
+    extended c.extend_from_slice-in-Word.result _ _ _ _ c.extend_from_slice-in-Word.ensures.items (λ _ e cs n d p m.
+    e ∙ ap (λ k. vec_items c.args.out.now ++ k) (c.as_bytes-in-Word.ensures ∙ word_shown cs n c.in-Word.name d (subst (λ (v : Value). Means cs n v d) c.in-Word.is m)))
 
 pub returns-in-Empty : goal.returns-in-Empty
 returns-in-Empty c =
-    extended c.extend-from-slice-in-Empty.result _ _ _ _ c.extend-from-slice-in-Empty.ensures.items (λ _ e cs n d p m.
+    extended c.extend_from_slice-in-Empty.result _ _ _ _ c.extend_from_slice-in-Empty.ensures.items (λ _ e cs n d p m.
     e ∙ ap (λ k. vec_items c.args.out.now ++ k) (empty_shown cs n d (subst (λ (v : Value). Means cs n v d) c.in-Empty.is m)))
 
-pub returns-in-ok-to-string : goal.returns-in-ok-to-string
-returns-in-ok-to-string c =
+pub returns-in_ok-to_string : goal.returns-in_ok-to_string
+returns-in_ok-to_string c =
     let same : to_z w32 (of_z w32 c.in-Number.n) ≡ c.in-Number.n = search rules in
-    let bytes = c.as-bytes.ensures.value ∙ c.in-ok-to-string.ensures.ok ∙ ap signed_decimal same in
-    extended c.extend-from-slice.result _ _ _ _ c.extend-from-slice.ensures.items (λ _ e cs n d p m.
+    let bytes = c.as_bytes.ensures.value ∙ c.in_ok-to_string.ensures.ok ∙ ap signed_decimal same in
+    extended c.extend_from_slice.result _ _ _ _ c.extend_from_slice.ensures.items (λ _ e cs n d p m.
     e ∙ ap (λ k. vec_items c.args.out.now ++ k) (bytes ∙ number_shown cs n c.in-Number.n d (subst (λ (v : Value). Means cs n v d) c.in-Number.is m)))

@@ -10,14 +10,14 @@ use Rattle.artefact.proofs.module.Module.write.Goals as goal
 
 pub returns : goal.returns
 returns c =
-    IfOk-weaker c.put-rows.result _ _ (λ _ e p s.
-    let requires = ap (λ (xs : List Require). require_lines (map require_of xs)) c.as-slice.ensures.value ∙ ap require_lines s.requires in
-    let defines : EachDefines c.as-slice-2.result.now p.definitions = subst (λ (xs : List Definition). EachDefines xs p.definitions) (sym c.as-slice-2.ensures.value) (each_from _ _ p.definitions s.definitions) in
-    let rows = ap (λ (xs : List Row). row_lines (map meant xs)) c.as-slice-3.ensures.value ∙ ap row_lines (rows_from _ _ p.definitions s.definitions) in
+    IfOk-weaker c.put_rows.result _ _ (λ _ e p s.
+    let requires = ap (λ (xs : List Require). require_lines (map require_of xs)) c.as_slice.ensures.value ∙ ap require_lines s.requires in
+    let defines : EachDefines c.as_slice-2.result.now p.definitions = subst (λ (xs : List Definition). EachDefines xs p.definitions) (sym c.as_slice-2.ensures.value) (each_from _ _ p.definitions s.definitions) in
+    let rows = ap (λ (xs : List Row). row_lines (map meant xs)) c.as_slice-3.ensures.value ∙ ap row_lines (rows_from _ _ p.definitions s.definitions) in
     tables_put (vec_items c.args.out.now) _ _ _ _ _ _ (require_lines p.requires) (definition_lines p.definitions) (row_lines (rows_of p.definitions))
-    c.in-ok-extend-from-slice.ensures.items
-    (c.in-ok-put-requires.ensures ∙ ap (λ k. vec_items c.extend-from-slice.new.self ++ k) requires)
-    c.in-ok-extend-from-slice-2.ensures.items
-    (c.in-ok-put-definitions.ensures p.definitions defines)
-    c.in-ok-extend-from-slice-3.ensures.items
-    (e ∙ ap (λ k. vec_items c.extend-from-slice-3.new.self ++ k) rows)) c.put-rows.ensures
+    c.in_ok-extend_from_slice.ensures.items
+    (c.in_ok-put_requires.ensures ∙ ap (λ k. vec_items c.extend_from_slice.new.self ++ k) requires)
+    c.in_ok-extend_from_slice-2.ensures.items
+    (c.in_ok-put_definitions.ensures p.definitions defines)
+    c.in_ok-extend_from_slice-3.ensures.items
+    (e ∙ ap (λ k. vec_items c.extend_from_slice-3.new.self ++ k) rows)) c.put_rows.ensures

@@ -6,6 +6,6 @@ use Rattle.artefact_tables.proofs.require.RequireEntry.put.Goals as goal
 
 pub returns : goal.returns
 returns c =
-    let from = c.in-ok-put-field.ensures ∙ ap (λ k. vec_items c.args.out.now ++ (k ++ (32 ∷ []))) c.as-bytes.ensures in
-    let shift = c.as-bytes-2.ensures.value ∙ c.in-ok-to-string.ensures.ok in
-    IfOk-weaker c.put-field-2.result _ _ (λ _ e. two_put (vec_items c.args.out.now) _ _ (spelling c.args.self.now.from) _ from (e ∙ ap (λ k. vec_items c.put-field.new.out ++ (k ++ (10 ∷ []))) shift)) c.put-field-2.ensures
+    let from = c.in_ok-put_field.ensures ∙ ap (λ k. vec_items c.args.out.now ++ (k ++ (32 ∷ []))) c.as_bytes.ensures in
+    let shift = c.as_bytes-2.ensures.value ∙ c.in_ok-to_string.ensures.ok in
+    IfOk-weaker c.put_field-2.result _ _ (λ _ e. two_put (vec_items c.args.out.now) _ _ (spelling c.args.self.now.from) _ from (e ∙ ap (λ k. vec_items c.put_field.new.out ++ (k ++ (10 ∷ []))) shift)) c.put_field-2.ensures

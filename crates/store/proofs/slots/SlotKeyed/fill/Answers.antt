@@ -9,5 +9,5 @@ returns c =
     let l : length c.args.bytes.now ≤ 8192 = omega arith in
     record {
       test = sym (le-leb _ _ l);
-      after = ap (λ bytes. saying c.args.key (Some bytes)) (kept_front 8192 c.args.bytes.now c.copy-from-slice.new.self _ l c.copy-from-slice.ensures.after);
+      after = ap (λ bytes. saying c.args.key (Some bytes)) (kept_front 8192 c.args.bytes.now c.copy_from_slice.new.self _ l c.copy_from_slice.ensures.after);
     }

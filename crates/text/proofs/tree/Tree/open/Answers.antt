@@ -9,7 +9,7 @@ returns c =
       home = refl;
       begun = c.start-self.ensures;
       depth = refl;
-      parts = c.in-ok-push.ensures.items;
+      parts = c.in_ok-push.ensures.items;
       cells = refl;
       forms = refl;
     })
