@@ -3,13 +3,13 @@ use Rattle.word.specs.Words.{spelling}
 use Rattle.store.proofs.Copies.{fetched, copied_fetched, writes_fetched}
 use Rattle.store.proofs.copy.copy_entry.Goals as goal
 
-pub returns-in_ok-put : goal.returns-in_ok-put
-returns-in_ok-put g c =
+pub returns-in_ok-put-in-Ok : goal.returns-in_ok-put-in-Ok
+returns-in_ok-put-in-Ok g c =
     let n = spelling c.args.name in
     let k = c.args.kind in
     let held = g.A.Store.holds c.args.from.now n k in
     let f = c.in-Ok.ensures in
-    let p = c.in_ok-put.ensures in
+    let p = c.in_ok-put-in-Ok.ensures in
     let e = fetched held c.args.buffer.now c.fetch.new.out c.in-Ok.len f.value f.after in
     record {
       value = copied_fetched held (length c.args.buffer.now) _ (g.B.Store.accepts c.args.to.now n k) true e p.test;

@@ -3,7 +3,7 @@ use Rattle.text.proofs.tree.take_list.Goals as goal
 
 pub loop-part-preserved : goal.loop-part-preserved
 loop-part-preserved c =
-    let pushed = c.in_ok-list.ensures in
+    let pushed = c.in_ok-list-in-Datum.ensures in
     taking_datum _ _ _ _ _ _ c.in-Datum.value c.loop-part.list _ (newest_is _ _ _ _ c.in-Some.ensures.items c.in-Datum.is) pushed.0 pushed.1 c.loop-part.invariant
 
 pub returns-in-Bracket : goal.returns-in-Bracket
