@@ -7,7 +7,7 @@ use store::{Drafts, Slot, Slots, Store};
 
 /// Answers commands until the input ends. At first there is a store with no places.
 pub(crate) fn run(rt: &HostRuntime) -> anyhow::Result<()> {
-    let mut input = Input::new(rt);
+    let mut input = Input::new(rt)?;
     let mut next = serve(rt, &mut input, &mut Slots::new(&mut []))?;
     for _ in 0..u64::MAX {
         match next {

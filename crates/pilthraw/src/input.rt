@@ -10,10 +10,10 @@ pub(crate) struct Input {
 }
 
 impl Input {
-    pub(crate) fn new(rt: &HostRuntime) -> Input {
-        Input {
-            source: BufReader::new(rt.stdin()),
-        }
+    pub(crate) fn new(rt: &HostRuntime) -> io::Result<Input> {
+        Ok(Input {
+            source: BufReader::new(rt.alloc(), rt.stdin())?,
+        })
     }
 
     /// The next line, without its line feed; nothing at the end of the input.
