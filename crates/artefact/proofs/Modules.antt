@@ -1,10 +1,9 @@
 -- A module's definitions and their rows.
-use Rattle.std.proofs.Common.{◌≡◌, ℕ, zero, suc, ◌<◌, ◌≤◌, List, [], ◌∷◌, ◌++◌, map, length, get_or, pos, sym, refl, ap, ◌∙◌, arith}
+use Rattle.std.proofs.Common.{◌≡◌, ℕ, zero, suc, ◌<◌, List, [], ◌∷◌, ◌++◌, length, get_or, refl, ap, ◌∙◌, arith}
 use Rattle.std.proofs.lemmas.List.{append_assoc}
 use Rattle.rules.specs.Rows.{Row as PureRow, Definition as PureDefinition, flat, action, empty}
-use Rattle.rules.specs.Artefact.{definition_line, definition_lines, rows_of, row_lines, require_lines, require_header, definition_header, row_header}
+use Rattle.rules.specs.Artefact.{definition_line, definition_lines, rows_of, require_header, definition_header, row_header}
 use Rattle.artefact.specs.declared.module.Definition.{Definition}
-use Rattle.artefact.specs.declared.module.Kind.{Kind}
 use Rattle.artefact.specs.Says.{Defines, EachDefines, Definitions}
 use Rattle.artefact.proofs.Lines.{lines_of}
 

@@ -1,8 +1,7 @@
 -- The bytes of an artefact: three tables. Assumes nothing.
-use Rattle.std.specs.Prelude.{ℕ, List, [], ◌∷◌, ◌++◌, ℤ, codes, decimal}
+use Rattle.std.specs.Prelude.{ℕ, List, [], ◌∷◌, ◌++◌, codes, decimal}
 use Rattle.std.specs.Fmt.{signed_decimal}
-use Rattle.rules.specs.declared.primitive.Primitive.{Primitive}
-use Rattle.rules.specs.Words.{Spelling, Home, prim_spelling}
+use Rattle.rules.specs.Words.{Spelling, prim_spelling}
 use Rattle.rules.specs.Rows.{Row, number_row, empty_row, name_row, local_row, variable_row, set_row, if_row, let_row, do_row, call_row, prim_row, flat, size}
 use Rattle.rules.specs.Rows.{Kind, variable_of, procedure_of, macro_of, action, Definition, Require, Module}
 

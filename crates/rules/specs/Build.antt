@@ -1,5 +1,5 @@
 -- What a build or a run answers, by the texts, the number of pages and the buffer's length alone. Assumes nothing.
-use Rattle.std.specs.Prelude.{ℕ, true, false, cond, List, [], ◌∷◌, length, Some, None, Option, nat_le}
+use Rattle.std.specs.Prelude.{ℕ, cond, List, [], ◌∷◌, length, Some, None, Option, nat_le}
 use Rattle.rules.specs.declared.cause.Cause.{Cause}
 use Rattle.rules.specs.Words.{Spelling, is_word, text_home}
 use Rattle.rules.specs.Rows.{Module, Modules, find}

@@ -1,5 +1,5 @@
 -- What rows do when they run. Assumes nothing.
-use Rattle.std.specs.Prelude.{ℕ, zero, suc, ◌+◌, ◌-◌, Bool, true, false, cond, not, ◌&&◌, ◌||◌, List, [], ◌∷◌, ◌++◌, length, ℤ, pos, negsuc, ◌+ℤ◌, ◌-ℤ◌, ◌*ℤ◌, Some, None, Option, ◌==◌, nat_le, nat_lt}
+use Rattle.std.specs.Prelude.{ℕ, zero, suc, ◌+◌, ◌-◌, Bool, true, false, cond, not, ◌&&◌, List, [], ◌∷◌, ◌++◌, length, ℤ, pos, negsuc, ◌+ℤ◌, ◌-ℤ◌, ◌*ℤ◌, Some, None, Option, ◌==◌, nat_le, nat_lt}
 use Rattle.std.specs.Fmt.{signed_decimal}
 use Rattle.std.specs.Str.{bytes_eq}
 use Rattle.rules.specs.declared.cause.Cause.{Cause}
@@ -7,7 +7,7 @@ use Rattle.rules.specs.declared.primitive.Primitive.{Primitive}
 use Rattle.rules.specs.Words.{Spelling, Home, same_home, Datum}
 use Rattle.rules.specs.Words.{number as num, word, empty as nil, pair}
 use Rattle.rules.specs.Rows.{Expr, Exprs, number, empty, name, local, variable, set, if, bind, seq, call, prim, none, more, size}
-use Rattle.rules.specs.Rows.{Kind, variable_of, procedure_of, macro_of, action, Definition, Module, Modules, find, definitions_of}
+use Rattle.rules.specs.Rows.{Kind, variable_of, procedure_of, macro_of, action, Definition, Modules, find, definitions_of}
 
 -- a variable: its name, its instance and its level
 pub record Slot : Type 0 where

@@ -1,14 +1,14 @@
 -- How a module's top forms become definitions. Assumes nothing.
-use Rattle.std.specs.Prelude.{ℕ, zero, suc, ◌+◌, Bool, true, false, cond, not, ◌&&◌, ◌||◌, List, [], ◌∷◌, ◌++◌, length, is_some, Some, None, codes, Option, ◌==◌, nat_le}
+use Rattle.std.specs.Prelude.{ℕ, zero, suc, ◌+◌, Bool, false, cond, not, ◌||◌, List, [], ◌∷◌, ◌++◌, length, is_some, Some, None, codes, Option, ◌==◌, nat_le}
 use Rattle.std.specs.Str.{bytes_eq}
 use Rattle.rules.specs.declared.cause.Cause.{Cause}
 use Rattle.rules.specs.Words.{Spelling, Home, same_home, Datum, reserved}
 use Rattle.rules.specs.Words.{number as num, word, empty as nil, pair}
 use Rattle.rules.specs.Reading.{Form}
-use Rattle.rules.specs.Rows.{Expr, Kind, variable_of, procedure_of, macro_of, action, Definition, Require, Module, Modules}
+use Rattle.rules.specs.Rows.{Kind, variable_of, procedure_of, macro_of, action, Definition, Require, Module, Modules}
 use Rattle.rules.specs.Evaluate.{World, Fault, Ran, gave, failed, Run, rows_before, run_definition, run_instances, fresh}
 use Rattle.rules.specs.Evaluate.{after as after_run}
-use Rattle.rules.specs.Lookup.{Header, Setting, Binding, own, clashes, reached_instances}
+use Rattle.rules.specs.Lookup.{Setting, Binding, own, clashes, reached_instances}
 use Rattle.rules.specs.Expand.{Trouble, broken, inside, Work, Tried, did, stopped, Try, ◌>>=◌, ◌>>◌, pure, break, unless, with_self, running, meaning, Scope, local_of, elements, use_macro, expand, turns}
 use Rattle.rules.specs.Refusals.{Refusal, Answer, answers, refuses, placed}
 

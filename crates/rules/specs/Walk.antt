@@ -1,12 +1,12 @@
 -- The walk over a reach: each text is read, and its requires are followed. Assumes nothing.
-use Rattle.std.specs.Prelude.{ℕ, zero, suc, Bool, true, false, cond, ◌&&◌, ◌||◌, List, [], ◌∷◌, ◌++◌, length, pos, negsuc, Some, None, codes, Option, ◌==◌, nat_le}
+use Rattle.std.specs.Prelude.{ℕ, zero, suc, Bool, false, cond, ◌&&◌, ◌||◌, List, [], ◌∷◌, ◌++◌, length, pos, negsuc, Some, None, codes, Option, ◌==◌, nat_le}
 use Rattle.std.specs.Str.{bytes_eq}
 use Rattle.rules.specs.declared.cause.Cause.{Cause}
-use Rattle.rules.specs.Words.{Spelling, Home, Datum, number, word, empty, pair, among, text_home}
+use Rattle.rules.specs.Words.{Spelling, Datum, number, word, empty, pair, among, text_home}
 use Rattle.rules.specs.Rows.{Require}
 use Rattle.rules.specs.Reading.{Form, Read, reads, refused, read}
 use Rattle.rules.specs.Tops.{Asked}
-use Rattle.rules.specs.Refusals.{Refusal, Answer, answers, refuses, about, placed, ◌>>=◌}
+use Rattle.rules.specs.Refusals.{Answer, answers, refuses, about, placed, ◌>>=◌}
 
 -- the texts by name
 abbrev pub Texts : Type 0

@@ -1,10 +1,8 @@
 -- What stands for a datum goes on standing for it.
-use Rattle.std.proofs.Common.{◌≡◌, ℕ, zero, suc, ◌+◌, ◌<◌, ◌≤◌, List, [], ◌∷◌, ◌++◌, length, get_or, codes, sym, refl, ap, ◌∙◌, subst, arith, length-append, rules}
+use Rattle.std.proofs.Common.{◌≡◌, ℕ, ◌≤◌, List, [], ◌∷◌, ◌++◌, length, get_or, codes, sym, refl, ap, ◌∙◌, subst, arith, length-append}
 use Rattle.std.proofs.lemmas.List.{append-nil, append_assoc, get_or_append_left, get_or_push, length_push}
-use Rattle.rules.specs.Words.{Datum, number, word, empty, pair, Home as PureHome}
-use Rattle.rules.specs.Reading.{quote_of}
+use Rattle.rules.specs.Words.{Datum, number, word, empty, pair}
 use Rattle.word.specs.declared.Word.{Word}
-use Rattle.word.specs.declared.Name.{Name}
 use Rattle.word.specs.declared.Home.{Home}
 use Rattle.text.specs.declared.data.Value.{Value}
 use Rattle.text.specs.declared.data.Cell.{Cell}

@@ -1,5 +1,5 @@
 -- The reader, byte by byte.
-use Rattle.std.proofs.Common.{◌≡◌, ℕ, ◌+◌, ◌-◌, ◌<◌, ◌≤◌, Bool, true, false, cond, eqb, List, [], ◌∷◌, ◌++◌, length, get_or, take, drop, Ok, Err, Result, sym, refl, ap, ◌∙◌, subst, arith, Bor}
+use Rattle.std.proofs.Common.{◌≡◌, ℕ, ◌+◌, ◌-◌, ◌<◌, ◌≤◌, true, false, cond, eqb, List, [], ◌∷◌, length, get_or, take, drop, Ok, Err, Result, sym, refl, ap, ◌∙◌, subst, arith, Bor}
 use Rattle.std.proofs.lemmas.List.{drop_all, drop_more}
 use Rattle.rules.specs.declared.cause.Cause.{Cause}
 use Rattle.rules.specs.Refusals.{Refusal as PureRefusal}
@@ -16,8 +16,8 @@ use Rattle.text.specs.declared.tree.Text.{Text}
 use Rattle.text.specs.declared.tree.Tree.{Tree}
 use Rattle.text.specs.declared.reader.Reader.{Reader}
 use Rattle.word.specs.Words.{home_of, spelling}
-use Rattle.text.specs.Tree.{Built, RefusedAs, Went, Finished, Within}
-use Rattle.text.specs.Reads.{pending, from, SteppedTo, Stepped}
+use Rattle.text.specs.Tree.{Built, RefusedAs, Finished, Within}
+use Rattle.text.specs.Reads.{pending, from, SteppedTo}
 use Rattle.text.proofs.Scans.{item_more, mark_done, item_refused, mark_refused, finish_pending, pending_more, pending_none, end_done, end_refused}
 
 -- a refusal of one reading is a refusal of another

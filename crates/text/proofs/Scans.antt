@@ -1,11 +1,11 @@
 -- One byte of a text, as the rules scan it.
-use Rattle.std.proofs.Common.{◌≡◌, ℕ, zero, suc, ◌+◌, ◌-◌, ◌<◌, ◌≤◌, Bool, true, false, cond, eqb, List, [], ◌∷◌, ◌++◌, reverse, length, get_or, take, drop, sym, refl, ap, ◌∙◌, subst, arith}
+use Rattle.std.proofs.Common.{◌≡◌, ℕ, ◌+◌, ◌-◌, ◌<◌, ◌≤◌, true, false, cond, eqb, List, [], ◌∷◌, ◌++◌, reverse, length, get_or, take, drop, sym, refl, ap, ◌∙◌, arith}
 use mathlib.Core.List.{reverse-append}
 use Rattle.std.proofs.lemmas.List.{reverse-reverse, length-reverse, length-take-le, length-drop, take_more, get_or-drop}
 use Rattle.std.proofs.lemmas.Bool.{cond-true, cond-false, ne_eqb, eq-eqb}
 use Rattle.rules.specs.declared.cause.Cause.{Cause}
 use Rattle.rules.specs.Words.{Home, item_byte}
-use Rattle.rules.specs.Reading.{Read, reads, refused, Form, Progress, scan, finish, mark, placed, item_of, ended, ◌>>=◌}
+use Rattle.rules.specs.Reading.{reads, refused, Progress, scan, finish, mark, placed, item_of, ended, ◌>>=◌}
 use Rattle.text.specs.Reads.{pending}
 
 pub item_more : (h : Home) (b : ℕ) (rest : List ℕ) (at : ℕ) (pend : List ℕ) (p : Progress) → item_byte b ≡ true → scan h (b ∷ rest) at pend p ≡ scan h rest (at + 1) (b ∷ pend) p

@@ -1,12 +1,10 @@
 -- The tree, byte by byte.
-use Rattle.std.proofs.Common.{◌≡◌, ℕ, zero, suc, ◌+◌, ◌-◌, ◌<◌, ◌≤◌, Bool, true, false, cond, eqb, leb, List, [], ◌∷◌, ◌++◌, reverse, length, Some, None, vec_items, Option, Result, sym, refl, ap, ◌∙◌, subst, arith}
+use Rattle.std.proofs.Common.{◌≡◌, ℕ, ◌+◌, ◌-◌, ◌<◌, cond, eqb, leb, List, [], ◌∷◌, ◌++◌, reverse, length, Some, vec_items, Option, Result, sym, ap, ◌∙◌, subst, arith}
 use mathlib.Core.List.{reverse-cons}
-use Rattle.std.proofs.lemmas.Bool.{cond-true, cond-false, ne_eqb, lt-leb, le-leb}
-use Rattle.rules.specs.declared.cause.Cause.{Cause}
+use Rattle.std.proofs.lemmas.Bool.{cond-false, ne_eqb, lt-leb}
 use Rattle.rules.specs.Words.{Datum, list_of}
-use Rattle.rules.specs.Reading.{Read, reads, refused, Open, bracket, quoted, Progress, settle, start, nest, close, placed, ended}
+use Rattle.rules.specs.Reading.{reads, Open, bracket, quoted, Progress, settle, start, nest, close}
 use Rattle.rules.specs.Reading.{Form as PureForm}
-use Rattle.word.specs.declared.Home.{Home}
 use Rattle.text.specs.declared.data.Value.{Value}
 use Rattle.text.specs.declared.data.Cell.{Cell}
 use Rattle.text.specs.declared.refusal.ReadFault.{ReadFault}
@@ -15,9 +13,9 @@ use Rattle.text.specs.declared.tree.Part.TheVariants.{Bracket, Quote, Datum as H
 use Rattle.text.specs.declared.tree.Form.{Form}
 use Rattle.text.specs.declared.tree.Tree.{Tree}
 use Rattle.word.specs.Words.{home_of}
-use Rattle.text.specs.Data.{Stands, Grows}
+use Rattle.text.specs.Data.{Stands}
 use Rattle.text.specs.Tree.{Parts, Forms, Built, opening, Taken, TakenFor, Unquoted, UnquotedAs, UnquotedTop, Went}
-use Rattle.text.proofs.Trees.{newest, parts_on, forms_on}
+use Rattle.text.proofs.Trees.{newest, forms_on}
 
 part_opened : (cs : List Cell) (ps : List Part) (os : List Open) (part : Part) (o : Open) → opening part ≡ Some o → Parts cs ps os → Parts cs (part ∷ ps) (o ∷ os)
 part_opened cs ps os Bracket o e p = let f : bracket [] ≡ o = cc in subst (λ (x : Open). Parts cs (Bracket ∷ ps) (x ∷ os)) f p

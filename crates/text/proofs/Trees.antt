@@ -1,11 +1,11 @@
 -- The parts of a text that is being read: what a `)` takes off, and what stands while cells are added.
-use Rattle.std.proofs.Common.{◌≡◌, ℕ, zero, suc, ◌+◌, ◌-◌, ◌<◌, ◌≤◌, Bool, true, false, ltb, List, [], ◌∷◌, ◌++◌, reverse, length, get_or, is_some, Some, None, Option, sym, refl, ap, ◌∙◌, subst, arith}
+use Rattle.std.proofs.Common.{◌≡◌, ℕ, ◌-◌, ◌<◌, ◌≤◌, true, false, ltb, List, [], ◌∷◌, ◌++◌, reverse, length, get_or, is_some, Some, None, Option, sym, refl, ap, ◌∙◌, subst, arith}
 use mathlib.Core.List.{reverse-cons, reverse-append}
 use Rattle.std.specs.Option.{option_to_list}
 use Rattle.std.proofs.lemmas.List.{append-nil, append_assoc, get_or-reverse, get_or_default}
 use Rattle.std.proofs.lemmas.Bool.{true≢false, false≢true, ltb-false}
-use Rattle.rules.specs.Words.{Datum, list_of, pair, empty}
-use Rattle.rules.specs.Reading.{Open, bracket, quoted, Progress, settle, quote_of}
+use Rattle.rules.specs.Words.{Datum, list_of}
+use Rattle.rules.specs.Reading.{Open, bracket, quoted, settle, quote_of}
 use Rattle.rules.specs.Reading.{Form as PureForm}
 use Rattle.word.specs.declared.Home.{Home}
 use Rattle.text.specs.declared.data.Value.{Value}

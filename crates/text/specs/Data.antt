@@ -1,5 +1,5 @@
 -- How values and cells stand for pure data. Assumes nothing.
-use Rattle.std.specs.Prelude.{◌≡◌, ℕ, ◌<◌, List, [], ◌∷◌, ◌++◌, length, pos, slice_index_or}
+use Rattle.std.specs.Prelude.{◌≡◌, ℕ, ◌<◌, List, ◌++◌, length, pos, slice_index_or}
 use Rattle.rules.specs.Words.{Datum, number, word, empty, pair}
 use Rattle.rules.specs.Reading.{quote_of}
 use Rattle.word.specs.declared.Name.{Name}

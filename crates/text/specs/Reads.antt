@@ -1,5 +1,5 @@
 -- The reader, byte by byte, against the rules. Assumes nothing.
-use Rattle.std.specs.Prelude.{◌≡◌, ℕ, ◌+◌, ◌-◌, ◌≤◌, List, [], ◌∷◌, reverse, length, Ok, Err, Result, slice_index, slice_range}
+use Rattle.std.specs.Prelude.{◌≡◌, ℕ, ◌+◌, ◌≤◌, List, ◌∷◌, reverse, Ok, Err, Result, slice_index, slice_range}
 use Rattle.rules.specs.Reading.{Read, Progress, scan}
 use Rattle.rules.specs.Reading.{Form as PureForm}
 use Rattle.text.specs.declared.refusal.ReadFault.{ReadFault}

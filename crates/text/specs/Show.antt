@@ -1,5 +1,5 @@
 -- How data and forms are shown. Assumes nothing.
-use Rattle.std.specs.Prelude.{ℕ, Bool, true, false, List, [], ◌∷◌, ◌++◌, length, codes, decimal}
+use Rattle.std.specs.Prelude.{ℕ, Bool, true, false, List, [], ◌∷◌, ◌++◌, codes, decimal}
 use Rattle.std.specs.Fmt.{signed_decimal}
 use Rattle.rules.specs.Words.{Datum, number, word, empty, pair}
 use Rattle.rules.specs.Reading.{Form}

@@ -1,7 +1,7 @@
 -- How the parts of a text that is being read stand for what the rules say has been read. Assumes nothing.
-use Rattle.std.specs.Prelude.{◌≡◌, ℕ, ◌≤◌, Bool, true, false, List, [], ◌∷◌, ◌++◌, reverse, length, Some, None, Ok, Err, vec_items, Option, Result}
+use Rattle.std.specs.Prelude.{◌≡◌, ℕ, ◌≤◌, Bool, true, false, List, [], ◌∷◌, reverse, length, Some, None, Ok, Err, vec_items, Option, Result}
 use Rattle.rules.specs.declared.cause.Cause.{Cause}
-use Rattle.rules.specs.Words.{Datum, list_of, Home as PureHome}
+use Rattle.rules.specs.Words.{Datum, list_of}
 use Rattle.rules.specs.Reading.{Read, reads, refused, Open, bracket, quoted, Progress, settle}
 use Rattle.rules.specs.Reading.{Form as PureForm}
 use Rattle.rules.specs.Refusals.{placed}
@@ -9,7 +9,6 @@ use Rattle.word.specs.declared.Word.{Word}
 use Rattle.word.specs.declared.Home.{Home}
 use Rattle.text.specs.declared.data.Value.{Value}
 use Rattle.text.specs.declared.data.Cell.{Cell}
-use Rattle.text.specs.declared.refusal.Refusal.{Refusal}
 use Rattle.text.specs.declared.refusal.ReadFault.{ReadFault}
 use Rattle.text.specs.declared.tree.Part.{Part}
 use Rattle.text.specs.declared.tree.Form.{Form}

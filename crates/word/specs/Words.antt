@@ -1,5 +1,5 @@
 -- What words and homes of the code stand for. Assumes nothing.
-use Rattle.std.specs.Prelude.{◌≡◌, ℕ, min, Bool, true, ◌&&◌, eqb, ◌⊎◌, List, [], take, IsUtf8}
+use Rattle.std.specs.Prelude.{◌≡◌, ℕ, min, Bool, true, ◌&&◌, List, [], take, IsUtf8}
 use Rattle.std.specs.Str.{bytes_eq}
 use Rattle.rules.specs.Words.{is_word, same_home}
 use Rattle.rules.specs.Words.{Home as PureHome}

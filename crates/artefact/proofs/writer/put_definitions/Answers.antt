@@ -1,4 +1,4 @@
-use Rattle.std.proofs.Common.{◌≡◌, ◌++◌, vec_items, ap, ◌∙◌, arith}
+use Rattle.std.proofs.Common.{◌++◌, vec_items, ap, ◌∙◌, arith}
 use Rattle.rules.specs.Artefact.{definition_line}
 use Rattle.artefact.proofs.Lines.{lines_more, lines_all}
 use Rattle.artefact.proofs.Modules.{no_definition, same_count, defines_at, definition_lines_of}

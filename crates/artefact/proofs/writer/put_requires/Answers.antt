@@ -1,4 +1,4 @@
-use Rattle.std.proofs.Common.{◌≡◌, ◌++◌, vec_items, ap, ◌∙◌}
+use Rattle.std.proofs.Common.{◌++◌, vec_items, ap, ◌∙◌}
 use Rattle.artefact.proofs.Lines.{lines_more, lines_all, require_line, require_lines_of}
 use Rattle.artefact.proofs.writer.put_requires.Goals as goal
 

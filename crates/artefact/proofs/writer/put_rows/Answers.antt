@@ -1,4 +1,4 @@
-use Rattle.std.proofs.Common.{◌≡◌, ◌++◌, vec_items, ap, ◌∙◌}
+use Rattle.std.proofs.Common.{◌++◌, vec_items, ap, ◌∙◌}
 use Rattle.rules.specs.Artefact.{row_line}
 use Rattle.artefact.specs.Says.{meant}
 use Rattle.artefact.proofs.Lines.{lines_more, lines_all, row_lines_of}

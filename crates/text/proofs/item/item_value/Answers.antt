@@ -1,4 +1,4 @@
-use Rattle.std.proofs.Common.{sym, refl, ap, rules}
+use Rattle.std.proofs.Common.{refl, ap, rules}
 use Rattle.rules.specs.Words.{number, word}
 use Rattle.text.specs.declared.data.Value.{Value}
 use Rattle.word.specs.Words.{home_of}

@@ -1,4 +1,4 @@
-use Rattle.std.proofs.Common.{◌≡◌, get_or, sym, ap, ◌∙◌, subst}
+use Rattle.std.proofs.Common.{get_or, sym, ap, ◌∙◌}
 use Rattle.text.specs.Items.{written_number}
 use Rattle.text.proofs.Numbers.{parse_reads, no_text_no_number}
 use Rattle.text.proofs.item.parse_digits.Goals as goal

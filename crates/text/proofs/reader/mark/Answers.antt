@@ -1,4 +1,4 @@
-use Rattle.std.proofs.Common.{◌≡◌, ℕ, [], sym, refl, subst}
+use Rattle.std.proofs.Common.{ℕ, [], sym, refl, subst}
 use Rattle.rules.specs.Reading.{mark, bracket, quoted}
 use Rattle.word.specs.Words.{home_of}
 use Rattle.text.specs.Tree.{Went}

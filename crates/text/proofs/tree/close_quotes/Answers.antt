@@ -1,8 +1,8 @@
 use Rattle.std.proofs.cmp.Tests.{ltb_from_iff}
-use Rattle.std.proofs.Common.{◌≡◌, true, false, List, reverse, vec_items, sym, ap, ◌∙◌, subst}
-use Rattle.text.specs.Tree.{quote_first, Unquoted}
+use Rattle.std.proofs.Common.{◌≡◌, true, false, List, reverse, vec_items, sym, ap, ◌∙◌}
+use Rattle.text.specs.Tree.{quote_first}
 use Rattle.text.specs.declared.tree.Part.{Part}
-use Rattle.text.proofs.Trees.{Any, unquoted_more, unquoted_all, quote_popped}
+use Rattle.text.proofs.Trees.{unquoted_more, unquoted_all, quote_popped}
 use Rattle.text.proofs.tree.close_quotes.Goals as goal
 
 pub quotes-preserved : goal.quotes-preserved

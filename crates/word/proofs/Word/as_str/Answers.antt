@@ -1,4 +1,4 @@
-use Rattle.std.proofs.Common.{ℕ, List, IsUtf8, sym, refl, ap, subst}
+use Rattle.std.proofs.Common.{ℕ, List, IsUtf8, refl, subst}
 use Rattle.word.proofs.Spellings.{word_is_text}
 use Rattle.word.proofs.Word.as_str.Goals as goal
 

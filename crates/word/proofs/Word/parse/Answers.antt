@@ -1,5 +1,4 @@
-use Rattle.std.proofs.Common.{◌≡◌, ◌<◌, ◌≤◌, true, false, length, sym, refl, ap, ◌∙◌, arith, rules}
-use Rattle.rules.specs.Words.{letter}
+use Rattle.std.proofs.Common.{sym, rules}
 use Rattle.word.proofs.Spellings.{held_front, no_word_by_byte, items_stop, items_so_far, word_at_end}
 use Rattle.word.proofs.Word.parse.Goals as goal
 

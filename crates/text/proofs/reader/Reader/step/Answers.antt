@@ -1,4 +1,4 @@
-use Rattle.std.proofs.Common.{sym, refl, subst, arith, rules}
+use Rattle.std.proofs.Common.{sym, refl}
 use Rattle.std.proofs.lemmas.Result.{err_from_is_err_and}
 use Rattle.text.proofs.Readers.{stepped_mark, stepped_item, stepped_bad_item, stepped_bad_mark}
 use Rattle.text.proofs.reader.Reader.step.Goals as goal

@@ -1,4 +1,4 @@
-use Rattle.std.proofs.Common.{refl, arith, rules}
+use Rattle.std.proofs.Common.{refl, rules}
 use Rattle.text.proofs.Steps.{form_settled, item_settled}
 use Rattle.text.proofs.tree.Tree.add.Goals as goal
 
