@@ -1,7 +1,7 @@
 use Rattle.std.proofs.Common.{[], ◌∷◌, ◌++◌, vec_items, refl, ap, ◌∙◌}
 use Rattle.table.proofs.Picked.{picked_one, picked_none, picked_all}
 use Rattle.table.proofs.order_tests.InstancesGraph.successors.Goals as goal
-use Rattle.table.proofs.order_tests.InstancesGraph.successors.Goals.{then-same+in_ok-push, else_same}
+use Rattle.table.proofs.order_tests.InstancesGraph.successors.Goals.{then-same+in_ok-push, else-same}
 
 pub loop-r-preserved : goal.loop-r-preserved
 loop-r-preserved c =
@@ -11,7 +11,7 @@ loop-r-preserved c =
           ∙ w.in_ok-push.ensures.items
           ∙ ap (λ b. vec_items c.loop-r.found ++ (record { «module» = _; base = b } ∷ [])) w.saturating_add.ensures
           ∙ picked_one _ _ c.args.self.now.needs.now _ _ _ c.loop-r-test.true w.if-same.ensures c.loop-r.invariant
-      | else_same w ↦ ap vec_items w.found-is ∙ picked_none _ _ c.args.self.now.needs.now _ _ _ c.loop-r-test.true w.if-same.ensures c.loop-r.invariant
+      | else-same w ↦ ap vec_items w.found-is ∙ picked_none _ _ c.args.self.now.needs.now _ _ _ c.loop-r-test.true w.if-same.ensures c.loop-r.invariant
     ]
 
 pub returns : goal.returns
