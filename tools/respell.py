@@ -1,6 +1,6 @@
 #!/usr/bin/env python3
 """Respells this repository's own definitions and lemmas as today's Rattle spells names: words in snake case, types in camel
-case. Run once, at the top, after the kit's port.py. Strings, comments and the names that Rattle makes stay as they are.
+case. Run at the top, after the kit's port.py; a second run changes nothing. Strings, comments and the names that Rattle makes stay as they are.
 """
 import collections
 import os
@@ -9,12 +9,21 @@ import sys
 
 # Lemmas named by the two functions of their left side keep the dash between them.
 KEEP = {"length-flat", "length-flats", "reverse-map"}
-NAMED = {"reverseAux-map": "reverse_aux-map", "sameKind-path": "same_kind_path", "all-differ": "none_alike", "find-blank": "blank_found"}
+NAMED = {
+    "reverseAux-map": "reverse_aux-map",
+    "sameKind-path": "same_kind_path",
+    "all-differ": "none_alike",
+    "find-blank": "blank_found",
+    # the test of two homes of the rules is same_home
+    "sameHome": "same_instance",
+}
 # Names of code: a string, a comment, or a word of antt.
 PARTS = re.compile(r'"(?:\\.|[^"\\])*"|--[^\n]*|[^\s(){}\[\];,.«»λ"]+|.', re.S)
 RUST = re.compile(r'"(?:\\.|[^"\\])*"|//[^\n]*|[^\s(){}\[\];,.«»λ"]+|.', re.S)
 SIGNATURE = re.compile(r"^\s*(?:pub |abbrev |unfoldable )*([^\s:(){}]+(?: [^\s:(){}]+)*) : (.*)")
 NOMINAL = re.compile(r"^\s*(?:pub )?(?:abbrev )?(?:record|data)(?: pub)? (\S+)")
+CAMEL = re.compile(r"(?<=[a-z0-9])[A-Z]")
+HUMPED = re.compile(r"[a-z][a-z0-9_]*[A-Z]")
 MADE = re.compile(r"^(c|goal|h|w|l|need)$")
 
 
@@ -47,11 +56,12 @@ def respelled(name):
         return NAMED[name]
     if name[0].isupper():
         return "".join(p[0].upper() + p[1:] for p in name.split("-"))
-    return name.replace("-", "_")
+    return CAMEL.sub(lambda m: "_" + m.group(0).lower(), name.replace("-", "_"))
 
 
 def main():
-    names = [n for n in declared() if "-" in n and n not in KEEP and not n.startswith("◌") and not n.startswith("-")]
+    names = [n for n in declared() if n not in KEEP and n[0].isalpha() and ("-" in n or HUMPED.match(n))]
+    names = [n for n in names if n not in NAMED.values()]
     turned = {n: respelled(n) for n in names}
     seen = set()
     made = collections.Counter()

@@ -5,8 +5,8 @@ use Rattle.store.specs.declared.Kind.{Kind}
 use Rattle.store.specs.declared.Change.{Change}
 use Rattle.store.specs.declared.Change.TheVariants.{Put}
 use Rattle.store.specs.declared.copy.CopyFault.TheVariants.{Short}
-use Rattle.store.specs.Maps.{Map, samePlace, Writes, answered, fronted}
-use Rattle.store.specs.Copied.{copied, ifTaken}
+use Rattle.store.specs.Maps.{Map, same_place, Writes, answered, fronted}
+use Rattle.store.specs.Copied.{copied, if_taken}
 
 -- the bytes, and that they fit
 pub record Fetched (held : Option (List ℕ)) (room : ℕ) (front : List ℕ) : Type 0 where
@@ -27,10 +27,10 @@ fetched (Some bytes) buffer out n a o = by (leb (length bytes) (length buffer)) 
         let q : take (n - 0) out ≡ bytes = ap (take (n - 0)) p ∙ take_at bytes (drop (length bytes) buffer) (n - 0) m in
         record { stands = ap Some (sym q); fits = ap (λ bs. leb (length bs) (length buffer)) q ∙ t }
 
-pub copied_fetched : (held : Option (List ℕ)) (room : ℕ) (front : List ℕ) (takes : Change → Bool) (ok : Bool) → Fetched held room front → ok ≡ takes (Put (length front)) → ifTaken ok ≡ copied held takes room
+pub copied_fetched : (held : Option (List ℕ)) (room : ℕ) (front : List ℕ) (takes : Change → Bool) (ok : Bool) → Fetched held room front → ok ≡ takes (Put (length front)) → if_taken ok ≡ copied held takes room
 copied_fetched held room front takes ok f t =
-    ap ifTaken t
-    ∙ sym (ap (λ h. copied h takes room) f.stands ∙ ap (λ b. cond b (ifTaken (takes (Put (length front)))) (Err Short)) f.fits)
+    ap if_taken t
+    ∙ sym (ap (λ h. copied h takes room) f.stands ∙ ap (λ b. cond b (if_taken (takes (Put (length front)))) (Err Short)) f.fits)
 
 pub writes_fetched : (old new : Map) (n : List ℕ) (k : Kind) (held : Option (List ℕ)) (room : ℕ) (front : List ℕ) → Fetched held room front → Writes true old new n k (Some front) → Writes true old new n k held
-writes_fetched old new n k held room front f w m j = w m j ∙ ap (λ v. cond (samePlace n k m j) v (old m j)) (sym f.stands)
+writes_fetched old new n k held room front f w m j = w m j ∙ ap (λ v. cond (same_place n k m j) v (old m j)) (sym f.stands)

@@ -6,14 +6,14 @@ use Rattle.word.specs.Words.{spelling}
 use Rattle.store.specs.declared.Change.TheVariants.{Remove}
 use Rattle.store.specs.declared.rows.Key.{Key}
 use Rattle.store.specs.Maps.{Map, Writes, Keeps}
-use Rattle.store.specs.Rows.{Line, saying, placeFor, set_at, written, struck, over}
-use Rattle.store.specs.Drafted.{takenOver, removed}
+use Rattle.store.specs.Rows.{Line, saying, place_for, set_at, written, struck, over}
+use Rattle.store.specs.Drafted.{taken_over, removed}
 use Rattle.store.proofs.Looks.{write_writes, write_keeps, struck_writes}
 
 pub record Removal (below : Map) (rows after : List Line) (key : Key) (ok : Bool) : Type 0 where
-  pub test : ok ≡ takenOver below rows (spelling key.name) key.kind Remove
+  pub test : ok ≡ taken_over below rows (spelling key.name) key.kind Remove
   pub writes : Writes ok (over rows below) (over after below) (spelling key.name) key.kind None
-  pub keeps : Keeps ok (takenOver below rows) (takenOver below after)
+  pub keeps : Keeps ok (taken_over below rows) (taken_over below after)
   pub kept : after ≡ removed (below (spelling key.name) key.kind) rows key
 
 module _ (below : Map) (rows after : List Line) (key : Key) (len : Option ℕ) (e : len ≡ option_map length (below (spelling key.name) key.kind)) where
@@ -23,23 +23,23 @@ module _ (below : Map) (rows after : List Line) (key : Key) (len : Option ℕ) (
     where
       by : (o : Option (List ℕ)) → below (spelling key.name) key.kind ≡ o → Removal below rows after key true
       by None q = record {
-        test = sym (ap (λ o. not (is_some o) || is_some (placeFor rows (spelling key.name) key.kind)) q);
+        test = sym (ap (λ o. not (is_some o) || is_some (place_for rows (spelling key.name) key.kind)) q);
         writes = struck_writes rows after key below q s;
         keeps = tt;
         kept = s ∙ sym (ap (λ o. removed o rows key) q);
       }
       by (Some x) q = absurd (both_ways _ t (ap is_some (e ∙ ap (option_map length) q)))
 
-  no_row : (ok : Bool) → ok ≡ is_some (placeFor rows (spelling key.name) key.kind) → written rows key None ≡ cond ok (written rows key None) rows
+  no_row : (ok : Bool) → ok ≡ is_some (place_for rows (spelling key.name) key.kind) → written rows key None ≡ cond ok (written rows key None) rows
   no_row true t = refl
-  no_row false t = by (placeFor rows (spelling key.name) key.kind) refl
+  no_row false t = by (place_for rows (spelling key.name) key.kind) refl
     where
-      by : (o : Option ℕ) → placeFor rows (spelling key.name) key.kind ≡ o → written rows key None ≡ rows
+      by : (o : Option ℕ) → place_for rows (spelling key.name) key.kind ≡ o → written rows key None ≡ rows
       by None q = ap (λ o. set_at rows o (saying key None)) q
       by (Some i) q = absurd (both_ways _ (sym t) (ap is_some q))
 
   -- the entry stands below, and its row marks it as absent if it has one
-  pub hide_removes : (ok : Bool) → is_some len ≡ true → ok ≡ is_some (placeFor rows (spelling key.name) key.kind) → after ≡ written rows key None → Removal below rows after key ok
+  pub hide_removes : (ok : Bool) → is_some len ≡ true → ok ≡ is_some (place_for rows (spelling key.name) key.kind) → after ≡ written rows key None → Removal below rows after key ok
   hide_removes ok t p w = by (below (spelling key.name) key.kind) refl
     where
       by : (o : Option (List ℕ)) → below (spelling key.name) key.kind ≡ o → Removal below rows after key ok
@@ -47,8 +47,8 @@ module _ (below : Map) (rows after : List Line) (key : Key) (len : Option ℕ) (
       by (Some x) q =
           let s : after ≡ cond ok (written rows key None) rows = w ∙ no_row ok p in
           record {
-            test = p ∙ sym (ap (λ o. not (is_some o) || is_some (placeFor rows (spelling key.name) key.kind)) q);
+            test = p ∙ sym (ap (λ o. not (is_some o) || is_some (place_for rows (spelling key.name) key.kind)) q);
             writes = write_writes rows key below None after ok true p s;
-            keeps = write_keeps (takenOver below) rows (written rows key None) after ok s;
+            keeps = write_keeps (taken_over below) rows (written rows key None) after ok s;
             kept = w ∙ sym (ap (λ o. removed o rows key) q);
           }

@@ -7,30 +7,30 @@ use Rattle.word.specs.Words.{spelling}
 use Rattle.store.specs.declared.Kind.{Kind}
 use Rattle.store.specs.declared.Kind.TheVariants.{Text, Artefact}
 use Rattle.store.specs.declared.rows.Key.{Key}
-use Rattle.store.specs.Maps.{sameKind, samePlace, Writes, Keeps, Map, Taken}
-use Rattle.store.specs.Rows.{Line, said, saying, is_at, isFree, first, look, or_else, placeFor, set_at, written, cleared, struck, emptied, over}
+use Rattle.store.specs.Maps.{same_kind, same_place, Writes, Keeps, Map, Taken}
+use Rattle.store.specs.Rows.{Line, said, saying, is_at, is_free, first, look, or_else, place_for, set_at, written, cleared, struck, emptied, over}
 use Rattle.store.proofs.Firsts.{FirstAt, first_at}
 
-same_kind_path : (a b : Kind) → sameKind a b ≡ true → a ≡ b
+same_kind_path : (a b : Kind) → same_kind a b ≡ true → a ≡ b
 same_kind_path Text Text t = refl
 same_kind_path Text Artefact t = absurd (false≢true t)
 same_kind_path Artefact Text t = absurd (false≢true t)
 same_kind_path Artefact Artefact t = refl
 
-place_same : (n : List ℕ) (k : Kind) (m : List ℕ) (j : Kind) → samePlace n k m j ≡ true → (n ≡ m) × (k ≡ j)
+place_same : (n : List ℕ) (k : Kind) (m : List ℕ) (j : Kind) → same_place n k m j ≡ true → (n ≡ m) × (k ≡ j)
 place_same n k m j t = let h = and_parts _ _ t in ((bytes_eq-Decides n m).0 h.0, same_kind_path k j h.1)
 
 module _ (n : List ℕ) (k : Kind) where
   -- a row that has one entry has no other
-  at_other : (x : Line) (m : List ℕ) (j : Kind) → is_at n k x ≡ true → samePlace n k m j ≡ false → is_at m j x ≡ false
+  at_other : (x : Line) (m : List ℕ) (j : Kind) → is_at n k x ≡ true → same_place n k m j ≡ false → is_at m j x ≡ false
   at_other None m j t f = refl
   at_other (Some s) m j t f =
       let e : (s.name ≡ n) × (s.kind ≡ k) = place_same s.name s.kind n k t in
-      let u : samePlace s.name s.kind m j ≡ samePlace n k m j = cc in
+      let u : same_place s.name s.kind m j ≡ same_place n k m j = cc in
       u ∙ f
 
   -- the row that has an entry, by the entry's two names
-  at_same : (x : Line) (m : List ℕ) (j : Kind) → samePlace n k m j ≡ true → is_at m j x ≡ is_at n k x
+  at_same : (x : Line) (m : List ℕ) (j : Kind) → same_place n k m j ≡ true → is_at m j x ≡ is_at n k x
   at_same x m j t = let e = place_same n k m j t in cc
 
   module _ (base : Option (List ℕ)) where
@@ -58,11 +58,11 @@ module _ (n : List ℕ) (k : Kind) where
   goes_at (x ∷ xs) zero h = inl h
   goes_at (x ∷ xs) (suc m) h = (h.0, goes_at xs m h.1)
 
-  free_none : (x : Line) → isFree x ≡ true → x ≡ None
+  free_none : (x : Line) → is_free x ≡ true → x ≡ None
   free_none None t = refl
   free_none (Some s) t = absurd (false≢true t)
 
-  goes_free : (xs : List Line) (m c : ℕ) → None ≡ first (is_at n k) xs c → FirstAt isFree xs m → Goes xs m
+  goes_free : (xs : List Line) (m c : ℕ) → None ≡ first (is_at n k) xs c → FirstAt is_free xs m → Goes xs m
   goes_free [] m c e h = h
   goes_free (x ∷ xs) zero c e h = inr (free_none x h)
   goes_free (x ∷ xs) (suc m) c e h = by (λ z. goes_free xs m (suc c) z h.1) (is_at n k x) refl
@@ -71,28 +71,28 @@ module _ (n : List ℕ) (k : Kind) where
       by more true t = let z : None ≡ Some c = rw t at e in absurd (let y : ◌≡◌ {A = ℕ} 0 1 = cc in omega arith)
       by more false t = let z : None ≡ first (is_at n k) xs (suc c) = rw t at e in (t, more z)
 
-  goes_place : (xs : List Line) (i : ℕ) → placeFor xs n k ≡ Some i → Goes xs i
+  goes_place : (xs : List Line) (i : ℕ) → place_for xs n k ≡ Some i → Goes xs i
   goes_place xs i e = by (first (is_at n k) xs 0) refl (sym e)
     where
-      by : (o : Option ℕ) → o ≡ first (is_at n k) xs 0 → Some i ≡ or_else o (first isFree xs 0) → Goes xs i
+      by : (o : Option ℕ) → o ≡ first (is_at n k) xs 0 → Some i ≡ or_else o (first is_free xs 0) → Goes xs i
       by (Some m) f g =
           let h : m ≡ i = cc in
           goes_at xs i (first_at (is_at n k) xs i (ap Some (sym h) ∙ f))
-      by None f g = goes_free xs i 0 f (first_at isFree xs i g)
+      by None f g = goes_free xs i 0 f (first_at is_free xs i g)
 
   module _ (v : Option (List ℕ)) (m : List ℕ) (j : Kind) (base : Option (List ℕ)) where
-    look_set : (xs : List Line) (i : ℕ) → Goes xs i → look (set xs i (Some (record { name = n; kind = k; value = v }))) m j base ≡ cond (samePlace n k m j) v (look xs m j base)
+    look_set : (xs : List Line) (i : ℕ) → Goes xs i → look (set xs i (Some (record { name = n; kind = k; value = v }))) m j base ≡ cond (same_place n k m j) v (look xs m j base)
     look_set [] i h = absurd h
-    look_set (x ∷ xs) zero h = by (samePlace n k m j) refl
+    look_set (x ∷ xs) zero h = by (same_place n k m j) refl
       where
-        by : (b : Bool) → samePlace n k m j ≡ b → cond (samePlace n k m j) v (look xs m j base) ≡ cond (samePlace n k m j) v (look (x ∷ xs) m j base)
+        by : (b : Bool) → same_place n k m j ≡ b → cond (same_place n k m j) v (look xs m j base) ≡ cond (same_place n k m j) v (look (x ∷ xs) m j base)
         by true t = rw t
         by false t =
             let o : is_at m j x ≡ false = elim h [ inl a ↦ at_other x m j a t | inr a ↦ ap (is_at m j) a ] in
             rw (t, o)
-    look_set (x ∷ xs) (suc i) h = by (look_set xs i h.1) (samePlace n k m j) refl
+    look_set (x ∷ xs) (suc i) h = by (look_set xs i h.1) (same_place n k m j) refl
       where
-        by : look (set xs i (Some (record { name = n; kind = k; value = v }))) m j base ≡ cond (samePlace n k m j) v (look xs m j base) → (b : Bool) → samePlace n k m j ≡ b → look (x ∷ set xs i (Some (record { name = n; kind = k; value = v }))) m j base ≡ cond (samePlace n k m j) v (look (x ∷ xs) m j base)
+        by : look (set xs i (Some (record { name = n; kind = k; value = v }))) m j base ≡ cond (same_place n k m j) v (look xs m j base) → (b : Bool) → same_place n k m j ≡ b → look (x ∷ set xs i (Some (record { name = n; kind = k; value = v }))) m j base ≡ cond (same_place n k m j) v (look (x ∷ xs) m j base)
         by more true t =
             let o : is_at m j x ≡ false = at_same x m j t ∙ h.0 in
             let f : look (set xs i (Some (record { name = n; kind = k; value = v }))) m j base ≡ v = rw t at more in
@@ -102,29 +102,29 @@ module _ (n : List ℕ) (k : Kind) where
             rw (t, f)
 
   module _ (m : List ℕ) (j : Kind) (base : Option (List ℕ)) where
-    cleared_same : (x : Line) → samePlace n k m j ≡ true → is_at m j (cleared n k x) ≡ false
+    cleared_same : (x : Line) → same_place n k m j ≡ true → is_at m j (cleared n k x) ≡ false
     cleared_same x t = by (is_at n k x) refl
       where
         by : (b : Bool) → is_at n k x ≡ b → is_at m j (cleared n k x) ≡ false
         by true a = rw a
         by false a = rw a (at_same x m j t ∙ a)
 
-    cleared_other : (x : Line) (rest : Option (List ℕ)) → samePlace n k m j ≡ false → cond (is_at m j (cleared n k x)) (said (cleared n k x)) rest ≡ cond (is_at m j x) (said x) rest
+    cleared_other : (x : Line) (rest : Option (List ℕ)) → same_place n k m j ≡ false → cond (is_at m j (cleared n k x)) (said (cleared n k x)) rest ≡ cond (is_at m j x) (said x) rest
     cleared_other x rest t = by (is_at n k x) refl
       where
         by : (b : Bool) → is_at n k x ≡ b → cond (is_at m j (cleared n k x)) (said (cleared n k x)) rest ≡ cond (is_at m j x) (said x) rest
         by true a = let o = at_other x m j a t in rw (a, o)
         by false a = rw a
 
-    look_cleared : (xs : List Line) → look (map (cleared n k) xs) m j base ≡ cond (samePlace n k m j) base (look xs m j base)
-    look_cleared [] = by (samePlace n k m j) refl
+    look_cleared : (xs : List Line) → look (map (cleared n k) xs) m j base ≡ cond (same_place n k m j) base (look xs m j base)
+    look_cleared [] = by (same_place n k m j) refl
       where
-        by : (b : Bool) → samePlace n k m j ≡ b → base ≡ cond (samePlace n k m j) base base
+        by : (b : Bool) → same_place n k m j ≡ b → base ≡ cond (same_place n k m j) base base
         by true t = rw t
         by false t = rw t
-    look_cleared (x ∷ xs) = by (look_cleared xs) (samePlace n k m j) refl
+    look_cleared (x ∷ xs) = by (look_cleared xs) (same_place n k m j) refl
       where
-        by : look (map (cleared n k) xs) m j base ≡ cond (samePlace n k m j) base (look xs m j base) → (b : Bool) → samePlace n k m j ≡ b → look (map (cleared n k) (x ∷ xs)) m j base ≡ cond (samePlace n k m j) base (look (x ∷ xs) m j base)
+        by : look (map (cleared n k) xs) m j base ≡ cond (same_place n k m j) base (look xs m j base) → (b : Bool) → same_place n k m j ≡ b → look (map (cleared n k) (x ∷ xs)) m j base ≡ cond (same_place n k m j) base (look (x ∷ xs) m j base)
         by more true t =
             let f : look (map (cleared n k) xs) m j base ≡ base = rw t at more in
             let o = cleared_same x t in
@@ -142,8 +142,8 @@ module _ {X : Type 0} (f : X → Line) (xs : List X) (n : List ℕ) (k : Kind) w
   look_missed e b = look_none n k b (map f xs) 0 e
 
 -- a row that was written, or left since the bytes do not fit
-module _ {X : Type 0} (f : X → Line) (xs : List X) (key : Key) (i : ℕ) (e : Some i ≡ placeFor (map f xs) (spelling key.name) key.kind) where
-  pub write_test : (ok fits : Bool) → ok ≡ fits → ok ≡ (fits && is_some (placeFor (map f xs) (spelling key.name) key.kind))
+module _ {X : Type 0} (f : X → Line) (xs : List X) (key : Key) (i : ℕ) (e : Some i ≡ place_for (map f xs) (spelling key.name) key.kind) where
+  pub write_test : (ok fits : Bool) → ok ≡ fits → ok ≡ (fits && is_some (place_for (map f xs) (spelling key.name) key.kind))
   write_test ok true t = t ∙ ap is_some e
   write_test ok false t = t
 
@@ -153,16 +153,16 @@ module _ {X : Type 0} (f : X → Line) (xs : List X) (key : Key) (i : ℕ) (e : 
 
 -- rows over a map, after a row was written or was not
 module _ (rows : List Line) (key : Key) (below : Map) (v : Option (List ℕ)) where
-  pub written_writes : is_some (placeFor rows (spelling key.name) key.kind) ≡ true → Writes true (over rows below) (over (written rows key v) below) (spelling key.name) key.kind v
-  written_writes t m j = by (placeFor rows (spelling key.name) key.kind) refl
+  pub written_writes : is_some (place_for rows (spelling key.name) key.kind) ≡ true → Writes true (over rows below) (over (written rows key v) below) (spelling key.name) key.kind v
+  written_writes t m j = by (place_for rows (spelling key.name) key.kind) refl
     where
-      by : (o : Option ℕ) → placeFor rows (spelling key.name) key.kind ≡ o → over (written rows key v) below m j ≡ cond (samePlace (spelling key.name) key.kind m j) v (over rows below m j)
+      by : (o : Option ℕ) → place_for rows (spelling key.name) key.kind ≡ o → over (written rows key v) below m j ≡ cond (same_place (spelling key.name) key.kind m j) v (over rows below m j)
       by None e = absurd (both_ways _ (ap is_some e) t)
       by (Some i) e =
           ap (λ o. look (set_at rows o (saying key v)) m j (below m j)) e
           ∙ look_set (spelling key.name) key.kind v m j (below m j) rows i (goes_place (spelling key.name) key.kind rows i e)
 
-  pub write_writes : (after : List Line) (ok fits : Bool) → ok ≡ (fits && is_some (placeFor rows (spelling key.name) key.kind)) → after ≡ cond ok (written rows key v) rows → Writes ok (over rows below) (over after below) (spelling key.name) key.kind v
+  pub write_writes : (after : List Line) (ok fits : Bool) → ok ≡ (fits && is_some (place_for rows (spelling key.name) key.kind)) → after ≡ cond ok (written rows key v) rows → Writes ok (over rows below) (over after below) (spelling key.name) key.kind v
   write_writes after true fits t e m j = ap (λ rs. over rs below m j) e ∙ written_writes (and_parts _ _ (sym t)).1 m j
   write_writes after false fits t e m j = ap (λ rs. over rs below m j) e
 
@@ -172,9 +172,9 @@ write_keeps takes rows changed after false e = λ m j c. ap (λ rs. takes rs m j
 
 -- rows over nothing, once none has the entry
 pub struck_writes : (rows after : List Line) (key : Key) (below : Map) → below (spelling key.name) key.kind ≡ None → after ≡ struck rows key → Writes true (over rows below) (over after below) (spelling key.name) key.kind None
-struck_writes rows after key below none e m j = ap (λ rs. over rs below m j) e ∙ look_cleared (spelling key.name) key.kind m j (below m j) rows ∙ by (samePlace (spelling key.name) key.kind m j) refl
+struck_writes rows after key below none e m j = ap (λ rs. over rs below m j) e ∙ look_cleared (spelling key.name) key.kind m j (below m j) rows ∙ by (same_place (spelling key.name) key.kind m j) refl
   where
-    by : (b : Bool) → samePlace (spelling key.name) key.kind m j ≡ b → cond (samePlace (spelling key.name) key.kind m j) (below m j) (over rows below m j) ≡ cond (samePlace (spelling key.name) key.kind m j) None (over rows below m j)
+    by : (b : Bool) → same_place (spelling key.name) key.kind m j ≡ b → cond (same_place (spelling key.name) key.kind m j) (below m j) (over rows below m j) ≡ cond (same_place (spelling key.name) key.kind m j) None (over rows below m j)
     by true t =
         let h = place_same (spelling key.name) key.kind m j t in
         let f : below m j ≡ None = ap (λ x. below x j) (sym h.0) ∙ ap (below (spelling key.name)) (sym h.1) ∙ none in
@@ -193,14 +193,14 @@ first_emptied : (rows : List Line) (n : List ℕ) (k : Kind) (c : ℕ) → first
 first_emptied [] n k c = refl
 first_emptied (r ∷ rows) n k c = first_emptied rows n k (suc c)
 
-free_emptied : (rows : List Line) → is_some (first isFree (emptied rows) 0) ≡ ltb 0 (length rows)
+free_emptied : (rows : List Line) → is_some (first is_free (emptied rows) 0) ≡ ltb 0 (length rows)
 free_emptied [] = refl
 free_emptied (r ∷ rows) = sym (lt-ltb 0 (length (r ∷ rows)) (omega arith))
 
-pub place_emptied : (rows after : List Line) → after ≡ emptied rows → (n : List ℕ) (k : Kind) → is_some (placeFor after n k) ≡ ltb 0 (length rows)
+pub place_emptied : (rows after : List Line) → after ≡ emptied rows → (n : List ℕ) (k : Kind) → is_some (place_for after n k) ≡ ltb 0 (length rows)
 place_emptied rows after e n k =
-    ap (λ rs. is_some (placeFor rs n k)) e
-    ∙ ap (λ o. is_some (or_else o (first isFree (emptied rows) 0))) (first_emptied rows n k 0)
+    ap (λ rs. is_some (place_for rs n k)) e
+    ∙ ap (λ o. is_some (or_else o (first is_free (emptied rows) 0))) (first_emptied rows n k 0)
     ∙ free_emptied rows
 
 -- bytes that were copied to the front of an array, and are read again up to their length

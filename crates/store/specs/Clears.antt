@@ -5,8 +5,8 @@ use Rattle.std.proofs.lemmas.Bool.{both_ways}
 use Rattle.store.specs.declared.Change.TheVariants.{Remove}
 use Rattle.store.specs.declared.Kind.{Kind}
 use Rattle.store.specs.Maps.{Map}
-use Rattle.store.specs.Rows.{Line, is_at, first, look, or_else, placeFor, over}
-use Rattle.store.specs.Drafted.{takenOver}
+use Rattle.store.specs.Rows.{Line, is_at, first, look, or_else, place_for, over}
+use Rattle.store.specs.Drafted.{taken_over}
 
 module _ (n : List ℕ) (k : Kind) where
   -- an entry that is absent over one that stands has a row
@@ -22,9 +22,9 @@ module _ (n : List ℕ) (k : Kind) where
   or_else_some (Some i) p t = refl
   or_else_some None p t = absurd (both_ways false refl t)
 
-  pub drafts_clear : (below : Map) (rows : List Line) → over rows below n k ≡ None → takenOver below rows n k Remove ≡ true
+  pub drafts_clear : (below : Map) (rows : List Line) → over rows below n k ≡ None → taken_over below rows n k Remove ≡ true
   drafts_clear below rows e = by (below n k) refl
     where
-      by : (o : Option (List ℕ)) → below n k ≡ o → (not (is_some (below n k)) || is_some (placeFor rows n k)) ≡ true
+      by : (o : Option (List ℕ)) → below n k ≡ o → (not (is_some (below n k)) || is_some (place_for rows n k)) ≡ true
       by None q = rw q
       by (Some x) q = rw q (or_else_some (first (is_at n k) rows 0) _ (has_row rows 0 x (rw q at e)))

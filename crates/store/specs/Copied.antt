@@ -5,11 +5,11 @@ use Rattle.store.specs.declared.Change.TheVariants.{Put, Remove}
 use Rattle.store.specs.declared.copy.CopyFault.{CopyFault}
 use Rattle.store.specs.declared.copy.CopyFault.TheVariants.{NotTaken, Short}
 
-abbrev pub ifTaken : Bool → Result (Unit {0}) CopyFault
-ifTaken true = Ok tt
-ifTaken false = Err NotTaken
+abbrev pub if_taken : Bool → Result (Unit {0}) CopyFault
+if_taken true = Ok tt
+if_taken false = Err NotTaken
 
 -- what a copy answers, of what stands, what the other store takes and how long the buffer is
 abbrev pub copied : Option (List ℕ) → (Change → Bool) → ℕ → Result (Unit {0}) CopyFault
-copied None takes room = ifTaken (takes Remove)
-copied (Some bytes) takes room = cond (nat_le (length bytes) room) (ifTaken (takes (Put (length bytes)))) (Err Short)
+copied None takes room = if_taken (takes Remove)
+copied (Some bytes) takes room = cond (nat_le (length bytes) room) (if_taken (takes (Put (length bytes)))) (Err Short)

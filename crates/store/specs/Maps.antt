@@ -15,15 +15,15 @@ Map = List ℕ → Kind → Option (List ℕ)
 abbrev pub Taken : Type 0
 Taken = List ℕ → Kind → Change → Bool
 
-abbrev pub sameKind : Kind → Kind → Bool
-sameKind Text Text = true
-sameKind Text Artefact = false
-sameKind Artefact Text = false
-sameKind Artefact Artefact = true
+abbrev pub same_kind : Kind → Kind → Bool
+same_kind Text Text = true
+same_kind Text Artefact = false
+same_kind Artefact Text = false
+same_kind Artefact Artefact = true
 
 -- one entry is the other
-abbrev pub samePlace : List ℕ → Kind → List ℕ → Kind → Bool
-samePlace n k m j = bytes_eq n m && sameKind k j
+abbrev pub same_place : List ℕ → Kind → List ℕ → Kind → Bool
+same_place n k m j = bytes_eq n m && same_kind k j
 
 -- what a fetch answers, of what stands and how long the buffer is
 abbrev pub answered : Option (List ℕ) → ℕ → Result ℕ Miss
@@ -37,7 +37,7 @@ fronted (Some bytes) out = cond (nat_le (length bytes) (length out)) (bytes ++ d
 
 -- the map after a change of one entry that was taken or not
 abbrev pub Writes : Bool → Map → Map → List ℕ → Kind → Option (List ℕ) → Type 0
-Writes taken old new n k value = (m : List ℕ) (j : Kind) → new m j ≡ cond (taken && samePlace n k m j) value (old m j)
+Writes taken old new n k value = (m : List ℕ) (j : Kind) → new m j ≡ cond (taken && same_place n k m j) value (old m j)
 
 -- a change that was not taken leaves as it was what is taken
 abbrev pub Keeps : Bool → Taken → Taken → Type 0

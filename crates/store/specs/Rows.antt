@@ -3,7 +3,7 @@ use Rattle.std.specs.Prelude.{◌≡◌, ℕ, suc, Bool, true, false, cond, List
 use Rattle.word.specs.Words.{spelling}
 use Rattle.store.specs.declared.Kind.{Kind}
 use Rattle.store.specs.declared.rows.Key.{Key}
-use Rattle.store.specs.Maps.{samePlace, Map}
+use Rattle.store.specs.Maps.{same_place, Map}
 
 -- what a row says of one entry: its bytes, or that it is absent
 pub record Said : Type 0 where
@@ -24,15 +24,15 @@ said (Some s) = s.value
 
 abbrev pub is_at : List ℕ → Kind → Line → Bool
 is_at n k None = false
-is_at n k (Some s) = samePlace s.name s.kind n k
+is_at n k (Some s) = same_place s.name s.kind n k
 
-abbrev pub isFree : Line → Bool
-isFree None = true
-isFree (Some s) = false
+abbrev pub is_free : Line → Bool
+is_free None = true
+is_free (Some s) = false
 
 -- a search for a key's row, or for a free one
 abbrev pub sought : Option Key → Line → Bool
-sought None = isFree
+sought None = is_free
 sought (Some key) = is_at (spelling key.name) key.kind
 
 -- the index, counted from n, of the first that passes
@@ -57,8 +57,8 @@ abbrev pub or_else : Option ℕ → Option ℕ → Option ℕ
 or_else (Some i) o = Some i
 or_else None o = o
 
-abbrev pub placeFor : List Line → List ℕ → Kind → Option ℕ
-placeFor rs n k = or_else (first (is_at n k) rs 0) (first isFree rs 0)
+abbrev pub place_for : List Line → List ℕ → Kind → Option ℕ
+place_for rs n k = or_else (first (is_at n k) rs 0) (first is_free rs 0)
 
 abbrev pub set_at : List Line → Option ℕ → Line → List Line
 set_at rs None r = rs
@@ -66,7 +66,7 @@ set_at rs (Some i) r = slice_set rs i r
 
 -- the rows once one says this of the entry
 abbrev pub written : List Line → Key → Option (List ℕ) → List Line
-written rs key v = set_at rs (placeFor rs (spelling key.name) key.kind) (saying key v)
+written rs key v = set_at rs (place_for rs (spelling key.name) key.kind) (saying key v)
 
 -- the rows once none has the entry
 abbrev pub cleared : List ℕ → Kind → Line → Line

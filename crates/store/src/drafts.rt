@@ -4,9 +4,9 @@ ghost use Rattle.word.specs.Words.{spelling};
 ghost use Rattle.store.specs.declared.Change.{Change};
 ghost use Rattle.store.specs.declared.Kind.{Kind};
 ghost use Rattle.store.specs.Clears.{drafts_clear};
-ghost use Rattle.store.specs.Drafted.{draftSays, draftRows, drafted, draftsTake, takenFresh, removed};
+ghost use Rattle.store.specs.Drafted.{draft_says, draft_rows, drafted, drafts_take, taken_fresh, removed};
 ghost use Rattle.store.specs.Maps.{Writes, Keeps};
-ghost use Rattle.store.specs.Rows.{saying, placeFor, written};
+ghost use Rattle.store.specs.Rows.{saying, place_for, written};
 
 use super::rows::{Key, Keyed, count, deliver, place, row_of, strike, write};
 use super::{Change, Kind, Miss, NotTaken, Store};
@@ -33,7 +33,7 @@ struct DraftRow {
 impl DraftRow {
     /// A row with no draft.
     fn new() -> DraftRow
-        ensures { draftSays result ≡ None }
+        ensures { draft_says result ≡ None }
     {
         DraftRow {
             head: None,
@@ -43,14 +43,14 @@ impl DraftRow {
 
     /// Marks an entry as absent.
     fn hide(&mut self, key: Key)
-        ensures { draftSays self.new ≡ saying key None }
+        ensures { draft_says self.new ≡ saying key None }
     {
         self.head = Some(Head { key, len: None });
     }
 }
 
 impl Keyed for DraftRow {
-    ghost says = { draftSays };
+    ghost says = { draft_says };
 
     ghost fits = { λ n. nat_le n 1024 };
 
@@ -87,8 +87,8 @@ impl Keyed for DraftRow {
 
 /// Marks an entry as absent in the row that it goes to.
 fn hide(rows: &mut [DraftRow], key: Key) -> Result<(), NotTaken>
-    ensures test { is_ok result ≡ is_some (placeFor (draftRows rows.old) (spelling key.name) key.kind) }
-    ensures after { draftRows rows.new ≡ written (draftRows rows.old) key None }
+    ensures test { is_ok result ≡ is_some (place_for (draft_rows rows.old) (spelling key.name) key.kind) }
+    ensures after { draft_rows rows.new ≡ written (draft_rows rows.old) key None }
 {
     match place(rows, key) {
         Some(i) => {
@@ -111,8 +111,8 @@ impl<S: Store> Drafts<S> {
     pub fn new(below: S) -> Drafts<S>
         ensures below { result.below ≡ below }
         ensures holds { (n : List ℕ) (k : Kind) → drafted result.rows (S.Store.holds result.below) n k ≡ S.Store.holds below n k }
-        ensures accepts { (n : List ℕ) (k : Kind) (c : Change) → draftsTake result.rows (S.Store.holds result.below) n k c ≡ takenFresh c }
-        ensures rows { draftRows result.rows ≡ replicate 8 None }
+        ensures accepts { (n : List ℕ) (k : Kind) (c : Change) → drafts_take result.rows (S.Store.holds result.below) n k c ≡ taken_fresh c }
+        ensures rows { draft_rows result.rows ≡ replicate 8 None }
     {
         let row = DraftRow::new();
         Drafts {
@@ -133,9 +133,9 @@ impl<S: Store> Drafts<S> {
 impl<S: Store> Store for Drafts<S> {
     ghost holds = { λ d. drafted d.rows (S.Store.holds d.below) };
 
-    ghost accepts = { λ d. draftsTake d.rows (S.Store.holds d.below) };
+    ghost accepts = { λ d. drafts_take d.rows (S.Store.holds d.below) };
 
-    ghost clears = { λ d n k e. drafts_clear n k (S.Store.holds d.below) (draftRows d.rows) e };
+    ghost clears = { λ d n k e. drafts_clear n k (S.Store.holds d.below) (draft_rows d.rows) e };
 
     fn length(&self, name: Word, kind: Kind) -> Option<usize> {
         match row_of(&self.rows, Key { name, kind }) {
@@ -161,20 +161,20 @@ impl<S: Store> Store for Drafts<S> {
     }
 
     fn put(&mut self, name: Word, kind: Kind, bytes: &[u8]) -> Result<(), NotTaken>
-        ensures test { is_ok result ≡ draftsTake self.old.rows (S.Store.holds self.old.below) (spelling name) kind (Change.Put (length bytes.now)) }
+        ensures test { is_ok result ≡ drafts_take self.old.rows (S.Store.holds self.old.below) (spelling name) kind (Change.Put (length bytes.now)) }
         ensures after { Writes (is_ok result) (drafted self.old.rows (S.Store.holds self.old.below)) (drafted self.new.rows (S.Store.holds self.new.below)) (spelling name) kind (Some bytes.now) }
-        ensures same { Keeps (is_ok result) (draftsTake self.old.rows (S.Store.holds self.old.below)) (draftsTake self.new.rows (S.Store.holds self.new.below)) }
-        ensures rows { draftRows self.new.rows ≡ (if is_ok result then written (draftRows self.old.rows) (record { name = name; kind = kind }) (Some bytes.now) else draftRows self.old.rows) }
+        ensures same { Keeps (is_ok result) (drafts_take self.old.rows (S.Store.holds self.old.below)) (drafts_take self.new.rows (S.Store.holds self.new.below)) }
+        ensures rows { draft_rows self.new.rows ≡ (if is_ok result then written (draft_rows self.old.rows) (record { name = name; kind = kind }) (Some bytes.now) else draft_rows self.old.rows) }
         ensures below { self.new.below ≡ self.old.below }
     {
         write(&mut self.rows, Key { name, kind }, bytes)
     }
 
     fn remove(&mut self, name: Word, kind: Kind) -> Result<(), NotTaken>
-        ensures test { is_ok result ≡ draftsTake self.old.rows (S.Store.holds self.old.below) (spelling name) kind Change.Remove }
+        ensures test { is_ok result ≡ drafts_take self.old.rows (S.Store.holds self.old.below) (spelling name) kind Change.Remove }
         ensures after { Writes (is_ok result) (drafted self.old.rows (S.Store.holds self.old.below)) (drafted self.new.rows (S.Store.holds self.new.below)) (spelling name) kind None }
-        ensures same { Keeps (is_ok result) (draftsTake self.old.rows (S.Store.holds self.old.below)) (draftsTake self.new.rows (S.Store.holds self.new.below)) }
-        ensures rows { draftRows self.new.rows ≡ removed (S.Store.holds self.old.below (spelling name) kind) (draftRows self.old.rows) (record { name = name; kind = kind }) }
+        ensures same { Keeps (is_ok result) (drafts_take self.old.rows (S.Store.holds self.old.below)) (drafts_take self.new.rows (S.Store.holds self.new.below)) }
+        ensures rows { draft_rows self.new.rows ≡ removed (S.Store.holds self.old.below (spelling name) kind) (draft_rows self.old.rows) (record { name = name; kind = kind }) }
         ensures below { self.new.below ≡ self.old.below }
     {
         let key = Key { name, kind };

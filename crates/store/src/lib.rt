@@ -7,7 +7,7 @@ ghost use Rattle.std.specs.Option.{option_map};
 ghost use Rattle.word.specs.Words.{spelling};
 ghost use Rattle.store.specs.declared.Change.{Change};
 ghost use Rattle.store.specs.declared.Kind.{Kind};
-ghost use Rattle.store.specs.Maps.{sameKind, answered, fronted, Writes, Keeps};
+ghost use Rattle.store.specs.Maps.{same_kind, answered, fronted, Writes, Keeps};
 
 mod copy;
 mod drafts;
@@ -29,7 +29,7 @@ pub enum Kind {
 impl Kind {
     /// Whether two kinds are the same.
     pub fn same(self, other: Kind) -> bool
-        ensures { result ≡ sameKind self other }
+        ensures { result ≡ same_kind self other }
     {
         match (self, other) {
             (Kind::Text, Kind::Text) => true,

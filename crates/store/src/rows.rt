@@ -4,7 +4,7 @@ ghost use Rattle.std.specs.Option.{option_map};
 ghost use Rattle.word.specs.Words.{spelling};
 ghost use Rattle.store.specs.declared.rows.Key.{Key};
 ghost use Rattle.store.specs.Maps.{answered, fronted};
-ghost use Rattle.store.specs.Rows.{Line, said, saying, sought, first, look, placeFor, written, cleared, struck, emptied, HasKey};
+ghost use Rattle.store.specs.Rows.{Line, said, saying, sought, first, look, place_for, written, cleared, struck, emptied, HasKey};
 
 use super::{Kind, Miss, NotTaken};
 use word::Word;
@@ -78,7 +78,7 @@ pub(crate) fn row_of<R: Keyed>(rows: &[R], key: Key) -> Option<&R>
 
 /// The index of the row that an entry goes to: its own, or a free one.
 pub(crate) fn place<R: Keyed>(rows: &[R], key: Key) -> Option<usize>
-    ensures value { result ≡ placeFor (map R.Keyed.says rows.now) (spelling key.name) key.kind }
+    ensures value { result ≡ place_for (map R.Keyed.says rows.now) (spelling key.name) key.kind }
     ensures within { IfSome result (λ i. i < length rows.now) }
 {
     match find(rows, Some(key)) {
@@ -89,7 +89,7 @@ pub(crate) fn place<R: Keyed>(rows: &[R], key: Key) -> Option<usize>
 
 /// Puts bytes into the row that the entry goes to.
 pub(crate) fn write<R: Keyed>(rows: &mut [R], key: Key, bytes: &[u8]) -> Result<(), NotTaken>
-    ensures test { is_ok result ≡ (R.Keyed.fits (length bytes.now) && is_some (placeFor (map R.Keyed.says rows.old) (spelling key.name) key.kind)) }
+    ensures test { is_ok result ≡ (R.Keyed.fits (length bytes.now) && is_some (place_for (map R.Keyed.says rows.old) (spelling key.name) key.kind)) }
     ensures after { map R.Keyed.says rows.new ≡ (if is_ok result then written (map R.Keyed.says rows.old) key (Some bytes.now) else map R.Keyed.says rows.old) }
 {
     match place(rows, key) {

@@ -5,7 +5,7 @@ ghost use Rattle.store.specs.declared.Change.{Change};
 ghost use Rattle.store.specs.declared.Kind.{Kind};
 ghost use Rattle.store.specs.Maps.{Writes, Keeps};
 ghost use Rattle.store.specs.Rows.{written, struck, emptied};
-ghost use Rattle.store.specs.Slotted.{slotSays, slotRows, stood, taken, takenFresh};
+ghost use Rattle.store.specs.Slotted.{slot_says, slot_rows, stood, taken, taken_fresh};
 
 use super::rows::{Key, Keyed, count, deliver, empty, place, row_of, strike, write};
 use super::{Change, Kind, Miss, NotTaken, Store};
@@ -30,7 +30,7 @@ pub struct Slot {
 impl Slot {
     /// A slot with nothing in it.
     pub fn new() -> Slot
-        ensures { slotSays result ≡ None }
+        ensures { slot_says result ≡ None }
     {
         Slot {
             head: None,
@@ -40,7 +40,7 @@ impl Slot {
 }
 
 impl Keyed for Slot {
-    ghost says = { slotSays };
+    ghost says = { slot_says };
 
     ghost fits = { λ n. nat_le n 8192 };
 
@@ -86,8 +86,8 @@ impl<'a> Slots<'a> {
     /// A store that holds nothing, whatever the memory held.
     pub fn new(slots: &'a mut [Slot]) -> Slots<'a>
         ensures holds { (n : List ℕ) (k : Kind) → stood result.slots.now n k ≡ None }
-        ensures accepts { (n : List ℕ) (k : Kind) (c : Change) → taken result.slots.now n k c ≡ takenFresh (length slots.old) c }
-        ensures rows { slotRows result.slots.now ≡ emptied (slotRows slots.old) }
+        ensures accepts { (n : List ℕ) (k : Kind) (c : Change) → taken result.slots.now n k c ≡ taken_fresh (length slots.old) c }
+        ensures rows { slot_rows result.slots.now ≡ emptied (slot_rows slots.old) }
     {
         empty(slots);
         Slots { slots }
@@ -126,7 +126,7 @@ impl Store for Slots<'_> {
         ensures test { is_ok result ≡ taken self.old.slots.now (spelling name) kind (Change.Put (length bytes.now)) }
         ensures after { Writes (is_ok result) (stood self.old.slots.now) (stood self.new.slots.now) (spelling name) kind (Some bytes.now) }
         ensures same { Keeps (is_ok result) (taken self.old.slots.now) (taken self.new.slots.now) }
-        ensures rows { slotRows self.new.slots.now ≡ (if is_ok result then written (slotRows self.old.slots.now) (record { name = name; kind = kind }) (Some bytes.now) else slotRows self.old.slots.now) }
+        ensures rows { slot_rows self.new.slots.now ≡ (if is_ok result then written (slot_rows self.old.slots.now) (record { name = name; kind = kind }) (Some bytes.now) else slot_rows self.old.slots.now) }
     {
         write(self.slots, Key { name, kind }, bytes)
     }
@@ -135,7 +135,7 @@ impl Store for Slots<'_> {
         ensures test { is_ok result ≡ true }
         ensures after { Writes (is_ok result) (stood self.old.slots.now) (stood self.new.slots.now) (spelling name) kind None }
         ensures same { Keeps (is_ok result) (taken self.old.slots.now) (taken self.new.slots.now) }
-        ensures rows { slotRows self.new.slots.now ≡ struck (slotRows self.old.slots.now) (record { name = name; kind = kind }) }
+        ensures rows { slot_rows self.new.slots.now ≡ struck (slot_rows self.old.slots.now) (record { name = name; kind = kind }) }
     {
         strike(self.slots, Key { name, kind });
         Ok(())

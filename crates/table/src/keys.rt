@@ -1,5 +1,5 @@
 //! The keys that are in use: words, instances, bound names, variables.
-ghost use Rattle.word.specs.Words.{sameHome, spelling};
+ghost use Rattle.word.specs.Words.{same_instance, spelling};
 ghost use Rattle.table.specs.Keys.{same_spelling, same_bound, same_variable};
 ghost use Rattle.std.specs.Str.{bytes_eq};
 ghost use Rattle.table.specs.Equals.{bytes, along, numbers, both};
@@ -22,7 +22,7 @@ impl Key for Word {
 }
 
 impl Key for Home {
-    ghost like = { sameHome };
+    ghost like = { same_instance };
 
     ghost equivalence = { both _ _ (along (λ (h : Home). spelling h.module) bytes_eq bytes) (along (λ (h : Home). h.base) nat_eq numbers) };
 

@@ -14,11 +14,11 @@ spelling w = take (min w.len 12) w.bytes
 abbrev pub home_of : Home → PureHome
 home_of h = record { module_name = spelling h.module; base = h.base }
 
-abbrev pub sameHome : Home → Home → Bool
-sameHome a b = same_home (home_of a) (home_of b)
+abbrev pub same_instance : Home → Home → Bool
+same_instance a b = same_home (home_of a) (home_of b)
 
 abbrev pub same_name : Name → Name → Bool
-same_name a b = bytes_eq (spelling a.word) (spelling b.word) && sameHome a.home b.home
+same_name a b = bytes_eq (spelling a.word) (spelling b.word) && same_instance a.home b.home
 
 -- the bytes as text: where they are a word or any other text they are the text, and else there is none
 abbrev pub Shown : List ℕ → List ℕ → Type 0

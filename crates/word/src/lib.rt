@@ -5,7 +5,7 @@
 ghost use Rattle.std.specs.Prelude.{◌≡◌, true, false, length, codes, MatchOption};
 ghost use Rattle.std.specs.Str.{bytes_eq};
 ghost use Rattle.rules.specs.Words.{letter, item_byte, is_word, text_home};
-ghost use Rattle.word.specs.Words.{spelling, home_of, sameHome, same_name, Shown};
+ghost use Rattle.word.specs.Words.{spelling, home_of, same_instance, same_name, Shown};
 
 /// Whether a byte is a letter.
 pub fn is_letter(b: u8) -> bool
@@ -106,7 +106,7 @@ impl Home {
 
     /// Whether two homes are the same.
     pub fn same(&self, other: &Home) -> bool
-        ensures { result ≡ sameHome self.now other.now }
+        ensures { result ≡ same_instance self.now other.now }
     {
         self.module.same(&other.module) && self.base == other.base
     }

@@ -1,6 +1,6 @@
 use Rattle.std.proofs.Common.{leb, length, is_ok, Some, refl}
 use Rattle.store.specs.declared.rows.Key.{Key}
-use Rattle.store.specs.Drafted.{draftRows, takenOver}
+use Rattle.store.specs.Drafted.{draft_rows, taken_over}
 use Rattle.store.specs.Rows.{written}
 use Rattle.store.proofs.Looks.{write_writes, write_keeps}
 use Rattle.store.proofs.drafts.DraftsStore.put.Goals as goal
@@ -8,8 +8,8 @@ use Rattle.store.proofs.drafts.DraftsStore.put.Goals as goal
 pub returns : goal.returns
 returns g c =
     let below = g.S.Store.holds c.args.self.now.below in
-    let rows = draftRows c.args.self.now.rows in
-    let after = draftRows c.write.new.rows in
+    let rows = draft_rows c.args.self.now.rows in
+    let after = draft_rows c.write.new.rows in
     let key : Key = record { name = c.args.name; kind = c.args.kind } in
     let v = Some c.args.bytes.now in
     let ok = is_ok c.write.result in
@@ -17,7 +17,7 @@ returns g c =
     record {
       test = h.test;
       after = write_writes rows key below v after ok (leb (length c.args.bytes.now) 1024) h.test h.after;
-      same = write_keeps (takenOver below) rows (written rows key v) after ok h.after;
+      same = write_keeps (taken_over below) rows (written rows key v) after ok h.after;
       rows = h.after;
       below = refl {a = c.args.self.now.below};
     }

@@ -1,14 +1,14 @@
 use Rattle.std.proofs.Common.{leb, length, is_ok, Some}
 use Rattle.store.specs.declared.rows.Key.{Key}
 use Rattle.store.specs.Rows.{nothing, written}
-use Rattle.store.specs.Slotted.{slotRows, takenBy}
+use Rattle.store.specs.Slotted.{slot_rows, taken_by}
 use Rattle.store.proofs.Looks.{write_writes, write_keeps}
 use Rattle.store.proofs.slots.SlotsStore.put.Goals as goal
 
 pub returns : goal.returns
 returns c =
-    let rows = slotRows c.args.self.now.slots.now in
-    let after = slotRows c.write.new.rows in
+    let rows = slot_rows c.args.self.now.slots.now in
+    let after = slot_rows c.write.new.rows in
     let key : Key = record { name = c.args.name; kind = c.args.kind } in
     let v = Some c.args.bytes.now in
     let ok = is_ok c.write.result in
@@ -16,6 +16,6 @@ returns c =
     record {
       test = h.test;
       after = write_writes rows key nothing v after ok (leb (length c.args.bytes.now) 8192) h.test h.after;
-      same = write_keeps takenBy rows (written rows key v) after ok h.after;
+      same = write_keeps taken_by rows (written rows key v) after ok h.after;
       rows = h.after;
     }

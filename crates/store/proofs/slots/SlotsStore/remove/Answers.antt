@@ -1,13 +1,13 @@
 use Rattle.std.proofs.Common.{refl}
 use Rattle.store.specs.Rows.{nothing}
-use Rattle.store.specs.Slotted.{slotRows}
+use Rattle.store.specs.Slotted.{slot_rows}
 use Rattle.store.proofs.Looks.{struck_writes}
 use Rattle.store.proofs.slots.SlotsStore.remove.Goals as goal
 
 pub returns : goal.returns
 returns c = record {
   test = refl;
-  after = struck_writes (slotRows c.args.self.now.slots.now) (slotRows c.strike.new.rows) (record { name = c.args.name; kind = c.args.kind }) nothing refl c.strike.ensures;
+  after = struck_writes (slot_rows c.args.self.now.slots.now) (slot_rows c.strike.new.rows) (record { name = c.args.name; kind = c.args.kind }) nothing refl c.strike.ensures;
   same = tt;
   rows = c.strike.ensures;
 }
