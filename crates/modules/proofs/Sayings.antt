@@ -1,7 +1,7 @@
 -- When a module of the code says one of the rules, and which.
 use Rattle.std.proofs.Common.{◌≡◌, ℕ, zero, suc, ◌≤◌, Bool, true, false, not, ◌&&◌, eqb, leb, List, [], ◌∷◌, ◌++◌, map, length, take, drop, Some, None, vec_items, Option, sym, refl, ap, ◌∙◌, subst, arith}
 use Rattle.std.specs.Option.{option_map}
-use Rattle.std.specs.List.{AllByRecursion as All}
+use Rattle.std.specs.List.{AllByRecursion}
 use Rattle.std.proofs.lemmas.List.{append-nil, append_cancel_left, length-map, length-take-le, length-append, take-append-drop, take_at, drop_at, nil_from_length}
 use Rattle.std.proofs.lemmas.Bool.{and_parts, and_from, leb-true, le-leb, eqb-true}
 use Rattle.rules.specs.Rows.{Expr, Exprs, empty, none, more, size, flat}
@@ -109,7 +109,7 @@ assembled (d ∷ ds) (h ∷ hs) rows m t =
       assembled ds hs (drop h.rows rows) m.1 (ap (λ n. trees ds (drop n rows)) (sym same) ∙ split.2),
     )
 
-all_within : (hs : List Heading) (rows : List PureRow) → All HeadingWithin hs → every definition_within (assemble hs rows) ≡ true
+all_within : (hs : List Heading) (rows : List PureRow) → AllByRecursion HeadingWithin hs → every definition_within (assemble hs rows) ≡ true
 all_within [] rows a = refl
 all_within (h ∷ hs) rows a = and_from _ _ a.0.kind (all_within hs (drop h.rows rows) a.1)
 

@@ -1,7 +1,7 @@
 -- When the parts of a module make up a module of the rules. Assumes nothing.
 use Rattle.std.specs.Prelude.{◌≡◌, ℕ, ◌≤◌, Bool, true, false, ◌&&◌, List, [], ◌∷◌, map, length, take, drop, vec_items, ◌==◌, nat_le}
 use Rattle.std.specs.Option.{option_map}
-use Rattle.std.specs.List.{AllByRecursion as All}
+use Rattle.std.specs.List.{AllByRecursion}
 use Rattle.rules.specs.Rows.{Row as PureRow, Kind as PureKind, Definition as PureDefinition, size}
 use Rattle.word.specs.Words.{spelling}
 use Rattle.modules.specs.declared.module.Definition.{Definition}
@@ -39,7 +39,7 @@ pub record HeadingWithin (h : Heading) : Type 0 where
 -- each part keeps its own limits
 pub record PartsWithin (m : Module) : Type 0 where
   pub requires : every require_within (map require_of (vec_items m.required)) ≡ true
-  pub definitions : (hs : List Heading) × EachHeads (vec_items m.definitions) hs × All HeadingWithin hs
+  pub definitions : (hs : List Heading) × EachHeads (vec_items m.definitions) hs × AllByRecursion HeadingWithin hs
   pub rows : every row_within (map meant (vec_items m.rows)) ≡ true
 
 abbrev pub alike_require : Require → Require → Bool
