@@ -1,21 +1,20 @@
 -- Whole artefacts: their tables, what tells them apart, and how long they are.
-use Rattle.std.proofs.Common.{◌≡◌, ℕ, zero, suc, ◌+◌, ◌*◌, ◌<◌, ◌≤◌, Bool, true, false, not, ◌&&◌, eqb, ltb, leb, List, [], ◌∷◌, ◌++◌, map, length, get_or, Some, None, vec_items, codes, IsUtf8, decimal, sym, refl, ap, ◌∙◌, subst, arith}
+use Rattle.std.proofs.Common.{◌≡◌, ℕ, zero, suc, ◌+◌, ◌≤◌, Bool, true, false, not, ◌&&◌, eqb, List, [], ◌∷◌, ◌++◌, map, length, Some, None, vec_items, codes, IsUtf8, decimal, sym, refl, ap, ◌∙◌, subst, arith}
 use Rattle.std.specs.List.{flat_map, AllByRecursion as All}
 use Rattle.std.proofs.lemmas.Fmt.{decimal_digit}
 use Rattle.std.proofs.ByRecursion.{All-map, All-weaker}
 use Rattle.std.proofs.lemmas.Str.{IsUtf8-from_ascii}
 use Rattle.std.proofs.lemmas.List.{append-nil, append_assoc, append_cancel_left, length-append}
 use Rattle.std.proofs.lemmas.Bool.{false≢true, and_parts, not-true, eqb-false}
-use Rattle.rules.specs.Words.{is_word}
-use Rattle.rules.specs.Rows.{Row as PureRow, Require as PureRequire, Definition as PureDefinition, Module as PureModule, size, flat}
-use Rattle.rules.specs.Artefact.{line, row_line, row_lines, require_lines, definition_line, definition_lines, rows_of, require_header, definition_header, row_header, artefact, kind_word, kind_name, parameters}
+use Rattle.rules.specs.Rows.{Row as PureRow, Require as PureRequire, Definition as PureDefinition, Module as PureModule, flat}
+use Rattle.rules.specs.Artefact.{line, row_line, row_lines, require_lines, definition_line, definition_lines, rows_of, require_header, definition_header, row_header, artefact}
 use Rattle.modules.specs.declared.module.Row.{Row}
 use Rattle.modules.specs.declared.module.Definition.{Definition}
 use Rattle.modules.specs.declared.module.Require.{Require}
 use Rattle.modules.specs.declared.module.Module.{Module}
-use Rattle.modules.specs.Says.{meant, require_of, Says, Defines, EachDefines}
+use Rattle.modules.specs.Says.{meant, require_of, Says, EachDefines}
 use Rattle.modules.specs.Limits.{every, row_within, require_within, definition_within, WithinLimits}
-use Rattle.modules.specs.Whole.{Heading, Heads, HeadingWithin, EachHeads, heading, PartsWithin, whole}
+use Rattle.modules.specs.Whole.{Heading, HeadingWithin, EachHeads, heading, PartsWithin, whole}
 use Rattle.modules.proofs.Forests.{length-flat}
 use Rattle.modules.proofs.Sayings.{each_from, rows_from, lies, whole_says, says_whole, same_definitions}
 use Rattle.artefact_tables.specs.Lines.{Lacks, Ended, written, row_text, require_text, definition_text, require_line, heading_line, FitsRequire, FitsDefinition, FitsRow, LawfulRequire, LawfulHeading, LawfulRow}
@@ -80,6 +79,9 @@ written_ruled m p says =
     let ds = vec_items m.definitions in
     let rows = map meant (vec_items m.rows) in
     written_is m (map heading p.definitions) (headed ds p.definitions (each_from ds rows p.definitions says.definitions)) ∙ ap (λ k. ruled k (map heading p.definitions) rows) says.requires ∙ ap (ruled p.requires (map heading p.definitions)) (rows_from ds rows p.definitions says.definitions) ∙ sym (artefact_is p)
+
+pub wrote : (m : Module) (bytes : List ℕ) → bytes ≡ written m → Wrote m bytes
+wrote m bytes e = record { as_is = e; as_ruled = λ p says. e ∙ written_ruled m p says }
 
 -- the parts of a module of the rules keep their limits
 pub all_every : {X : Type 0} (f : X → Bool) (xs : List X) → every f xs ≡ true → All (λ x. f x ≡ true) xs

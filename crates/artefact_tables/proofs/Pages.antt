@@ -1,6 +1,5 @@
 -- How long an artefact can be.
-use Rattle.std.proofs.Common.{◌≡◌, ℕ, zero, suc, ◌+◌, ◌*◌, ◌^◌, ◌<◌, ◌≤◌, Bool, true, ◌&&◌, eqb, leb, List, [], ◌∷◌, ◌++◌, map, length, ℤ, pos, negsuc, codes, decimal, sym, refl, ap, ◌∙◌, mul-le-mul_left, mul-suc, arith, lit<}
-use lib.Signed.{mag}
+use Rattle.std.proofs.Common.{◌≡◌, ℕ, ◌+◌, ◌*◌, ◌<◌, ◌≤◌, true, ◌&&◌, leb, List, [], ◌∷◌, map, length, ℤ, pos, negsuc, codes, decimal, sym, ap, subst, mul-suc, arith}
 use Rattle.std.specs.Fmt.{signed_decimal}
 use Rattle.std.specs.List.{flat_map, AllByRecursion as All}
 use Rattle.std.proofs.lemmas.Fmt.{length-decimal-le, length_signed_le}
@@ -13,9 +12,12 @@ use Rattle.rules.specs.Evaluate.{in_range}
 use Rattle.rules.specs.Rows.{Row, Require, Module, number_row, empty_row, name_row, local_row, variable_row, set_row, if_row, let_row, do_row, call_row, prim_row}
 use Rattle.rules.specs.Rows.{Kind, variable_of, procedure_of, macro_of, action}
 use Rattle.rules.specs.Artefact.{unused, row_line, rows_of, artefact, kind_word, kind_name, parameters}
+use Rattle.modules.specs.declared.module.Module.{Module as CodeModule}
+use Rattle.modules.specs.Says.{Says}
 use Rattle.modules.specs.Limits.{free_name, home_within, row_within, require_within, kind_within, WithinLimits}
 use Rattle.modules.specs.Whole.{Heading, HeadingWithin, heading}
-use Rattle.artefact_tables.specs.Lines.{require_line, heading_line}
+use Rattle.artefact_tables.specs.Lines.{require_line, heading_line, written}
+use Rattle.artefact_tables.specs.Tables.{Wrote}
 use Rattle.artefact_tables.specs.Heads.{kind_parts, heading_five, free_word}
 use Rattle.artefact_tables.specs.Rows.{row_five, row_line_is, named_parts, arity_small}
 use Rattle.artefact_tables.specs.Entries.{require_parts}
@@ -114,3 +116,13 @@ artefact_short p t =
     let short : (q : Row) → row_within q ≡ true → length (row_line q) ≤ 40 = λ q w. omega (arith, ap length (row_line_is q), row_short q w) in
     let rows = joined_short row_line 40 (rows_of p.definitions) (All-weaker (λ q. row_within q ≡ true) (λ q. length (row_line q) ≤ 40) short (rows_of p.definitions) (all_every row_within (rows_of p.definitions) t.rows)) in
     omega (arith, ap length (artefact_is p), tables_long (flat_map require_line p.requires) (flat_map heading_line hs) (flat_map row_line (rows_of p.definitions)), requires, headings, rows, t.few_requires, t.few_definitions, t.few_rows, length-map p.definitions heading)
+
+-- where what is written of a module does not fit, it is longer, and the room is no page
+module _ (m : CodeModule) (bytes : List ℕ) (room : ℕ) (short : room < length bytes) (w : Wrote m bytes) where
+  pub too_long : room < length (written m)
+  too_long = subst (λ k. room < length k) w.as_is short
+
+  pub no_page : (p : Module) → Says m p → WithinLimits p → 8192 ≤ room → ⊥
+  no_page p says limits page =
+      let fits : length bytes ≤ 8192 = subst (λ k. length k ≤ 8192) (sym (w.as_ruled p says)) (artefact_short p limits) in
+      omega arith

@@ -12,3 +12,8 @@ five_put o p q r s t a b c d e g h i j k =
 
 pub two_put : (o p q a b : List ℕ) → p ≡ o ++ (a ++ (32 ∷ [])) → q ≡ p ++ (b ++ (10 ∷ [])) → q ≡ o ++ line (a ∷ b ∷ [])
 two_put o p q a b g h = h ∙ ap (λ x. x ++ (b ++ (10 ∷ []))) g ∙ simp append_assoc
+
+-- six parts, after nothing
+pub six_put : (o p q r s t u a b c d e f : List ℕ) → o ≡ [] → p ≡ o ++ a → q ≡ p ++ b → r ≡ q ++ c → s ≡ r ++ d → t ≡ s ++ e → u ≡ t ++ f → u ≡ a ++ (b ++ (c ++ (d ++ (e ++ f))))
+six_put o p q r s t u a b c d e f g h i j k l m =
+    m ∙ ap (λ x. x ++ f) (l ∙ ap (λ x. x ++ e) (k ∙ ap (λ x. x ++ d) (j ∙ ap (λ x. x ++ c) (i ∙ ap (λ x. x ++ b) (h ∙ ap (λ x. x ++ a) g))))) ∙ simp append_assoc

@@ -1,11 +1,10 @@
 -- Entries one after another: a text is one list of lines, and what stands after it.
-use Rattle.std.proofs.Common.{◌≡◌, ℕ, suc, ◌+◌, ◌<◌, ◌≤◌, List, [], ◌∷◌, ◌++◌, length, get_or, take, Some, None, Option, sym, refl, ap, ◌∙◌, subst, arith, lit<, Bor, MatchOption}
+use Rattle.std.proofs.Common.{◌≡◌, ℕ, suc, ◌+◌, ◌<◌, ◌≤◌, List, [], ◌∷◌, ◌++◌, length, get_or, take, Some, None, sym, refl, ap, ◌∙◌, subst, arith, lit<, Bor}
 use Rattle.std.specs.List.{flat_map, AllByRecursion as All}
-use Rattle.std.proofs.ByRecursion.{All-push}
 use Rattle.std.proofs.lemmas.List.{append-nil, append_assoc, take_more, take_all, flat_map_more, length-append}
 use Rattle.std.proofs.lemmas.Str.Pattern.{IsSplitOnceResult}
 use Rattle.artefact_tables.specs.Lines.{Lacks, Ended}
-use Rattle.artefact_tables.specs.Tables.{Stops, Took, Tabled, Titled}
+use Rattle.artefact_tables.specs.Tables.{Stops}
 use Rattle.artefact_tables.specs.Cuts.{cut_is, cut_found, cut_none}
 use Rattle.artefact_tables.specs.LinesLemmas.{line_once}
 

@@ -1,6 +1,6 @@
 -- Fields between spaces.
-use Rattle.std.specs.Prelude.{◌≡◌, ℕ, ◌<◌, List, [], ◌∷◌, ◌++◌, Some, None, ◌≢◌, refl}
-use Rattle.std.proofs.Common.{sym, ap, ◌∙◌, lit<}
+use Rattle.std.specs.Prelude.{◌≡◌, ℕ, ◌<◌, List, ◌∷◌, ◌++◌, Some, None, ◌≢◌}
+use Rattle.std.proofs.Common.{ap, ◌∙◌, lit<}
 use Rattle.std.specs.Borrow.{Bor}
 use Rattle.std.proofs.lemmas.Str.Pattern.{IsSplitOnceResult, split_after, split_parts}
 use Rattle.artefact_tables.specs.Lines.{Lacks}

@@ -1,5 +1,5 @@
 -- Rows, headings and requires as entries of tables.
-use Rattle.std.specs.Prelude.{◌≡◌, ℕ, ◌<◌, ◌≤◌, Bool, true, false, ◌&&◌, List, [], ◌∷◌, ◌++◌, Some, None, decimal, Option, MatchOption, nat_le, refl}
+use Rattle.std.specs.Prelude.{◌≡◌, ℕ, ◌≤◌, Bool, true, false, List, [], ◌∷◌, ◌++◌, Some, None, decimal, Option, nat_le, refl}
 use Rattle.std.proofs.Common.{sym, ap, subst, ◌∙◌, arith, lit<}
 use Rattle.std.specs.Borrow.{Bor}
 use Rattle.std.specs.Option.{option_map}
@@ -18,12 +18,12 @@ use Rattle.modules.specs.declared.module.Require.{Require}
 use Rattle.modules.specs.Says.{meant, require_of, Kinds, kind_title, kind_params}
 use Rattle.modules.specs.Limits.{row_within, require_within}
 use Rattle.modules.specs.Whole.{Heading, Heads, HeadingWithin}
-use Rattle.artefact_tables.specs.Lines.{Lacks, Ended, row_text, FitsRow, LawfulRow, definition_text, name_text, FitsDefinition, LawfulHeading, heading_line, require_line, require_text, FitsRequire, LawfulRequire}
-use Rattle.artefact_tables.specs.Fields.{when, small, five, row_from, heading_from, require_from}
-use Rattle.artefact_tables.specs.Picks.{some_same, none_some, when_some, when_true, mapped_some}
+use Rattle.artefact_tables.specs.Lines.{Ended, row_text, FitsRow, LawfulRow, definition_text, name_text, FitsDefinition, LawfulHeading, heading_line, require_line, require_text, FitsRequire, LawfulRequire}
+use Rattle.artefact_tables.specs.Fields.{when, small, row_from, heading_from, require_from}
+use Rattle.artefact_tables.specs.Picks.{some_same, none_some, when_true}
 use Rattle.artefact_tables.specs.Numbers.{read_small, written_small}
 use Rattle.artefact_tables.specs.Cuts.{cut_is, cut_found, cut_none}
-use Rattle.artefact_tables.specs.LinesLemmas.{Five, fields, lacks_append, lacks_cons, no_space, no_feed, low, low_append, graphic_low, plain_word, plain_decimal, cut_once}
+use Rattle.artefact_tables.specs.LinesLemmas.{lacks_append, lacks_cons, no_space, no_feed, low, low_append, graphic_low, plain_word, plain_decimal, cut_once}
 use Rattle.artefact_tables.specs.Rows.{row_five, row_line_is, row_back, row_plain, row_sound}
 use Rattle.artefact_tables.specs.Heads.{heading_five, heading_back, heading_plain, heading_sound}
 use Rattle.artefact_tables.specs.Columns.{Columns, entry_ended}

@@ -1,18 +1,18 @@
 -- The columns of a definition's line: what is read of them is the heading, and no other columns are read as it.
-use Rattle.std.specs.Prelude.{◌≡◌, ℕ, ◌^◌, ◌<◌, ◌≤◌, Bool, true, false, cond, ◌&&◌, List, [], ◌∷◌, ◌++◌, Some, None, codes, decimal, Option, nat_le, refl}
+use Rattle.std.specs.Prelude.{◌≡◌, ℕ, ◌≤◌, true, false, ◌&&◌, Some, None, codes, decimal, Option, nat_le, refl}
 use Rattle.std.proofs.Common.{sym, ap, subst, ◌∙◌, arith, lit<}
 use Rattle.std.specs.Option.{option_map}
 use Rattle.std.specs.Str.{bytes_eq}
 use Rattle.std.proofs.lemmas.Fmt.{decimal_digit}
 use Rattle.std.proofs.lemmas.Slice.Eq.{bytes_eq-Decides}
 use Rattle.std.proofs.lemmas.Bool.{and_parts, and_from, leb-true, le-leb}
-use Rattle.rules.specs.Words.{Spelling, is_word, reserved}
+use Rattle.rules.specs.Words.{Spelling, is_word}
 use Rattle.rules.specs.Rows.{Kind, variable_of, procedure_of, macro_of, action}
 use Rattle.rules.specs.Artefact.{unused, kind_word, kind_name, parameters}
 use Rattle.modules.specs.Limits.{free_name, kind_within}
 use Rattle.modules.specs.Whole.{Heading, HeadingWithin}
 use Rattle.artefact_tables.specs.Fields.{when, chain, pick, is_unused, small, kind_arms, may_stand, heading_from}
-use Rattle.artefact_tables.specs.Picks.{some_same, none_some, when_some, when_true, mapped_some, chain_some, pick_some, unused_is}
+use Rattle.artefact_tables.specs.Picks.{some_same, when_some, when_true, mapped_some, chain_some, pick_some, unused_is}
 use Rattle.artefact_tables.specs.Numbers.{read_small, written_small}
 use Rattle.artefact_tables.specs.LinesLemmas.{Five, fields, same_fields, AllPlain, Plain, plain_word, plain_decimal}
 

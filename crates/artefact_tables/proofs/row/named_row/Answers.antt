@@ -6,4 +6,4 @@ use Rattle.artefact_tables.proofs.row.named_row.Goals as goal
 pub returns-in_default : goal.returns-in_default
 returns-in_default c =
     let h = c.in_default in
-    none_got _ _ (pick_none c.args.op.now (named_arms (spelling c.args.name.word) (home_of c.args.name.home) c.args.number.now) (h.not-name, (h.not-variable, (h.not_call, tt))))
+    none_got _ _ (pick_none c.args.op.now (named_arms (spelling c.args.name.word) (home_of c.args.name.home) c.args.number.now) (h.not-name, (h.not-variable, (h.not-call, tt))))

@@ -1,4 +1,4 @@
-use Rattle.std.proofs.Common.{◌≡◌, sym, ap, ◌∙◌}
+use Rattle.std.proofs.Common.{sym, ap, ◌∙◌}
 use Rattle.rules.specs.Words.{is_word}
 use Rattle.artefact_tables.specs.Picks.{got_none, got_some, none_got}
 use Rattle.artefact_tables.specs.Rows.{no_home, no_word}

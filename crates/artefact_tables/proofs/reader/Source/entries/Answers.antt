@@ -1,4 +1,4 @@
-use Rattle.std.proofs.Common.{◌≡◌, List, ◌++◌, vec_items, sym, ap, ◌∙◌, subst}
+use Rattle.std.proofs.Common.{◌++◌, vec_items, sym, ap, ◌∙◌, subst}
 use Rattle.std.specs.List.{flat_map, AllByRecursion as All}
 use Rattle.std.proofs.ByRecursion.{All-push}
 use Rattle.artefact_tables.proofs.Tables.{tabled_more}

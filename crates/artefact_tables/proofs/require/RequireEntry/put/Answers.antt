@@ -1,4 +1,4 @@
-use Rattle.std.proofs.Common.{List, [], ◌∷◌, ◌++◌, vec_items, ap, ◌∙◌}
+use Rattle.std.proofs.Common.{[], ◌∷◌, ◌++◌, vec_items, ap, ◌∙◌}
 use Rattle.word.specs.Words.{spelling}
 use Rattle.std.proofs.lemmas.Result.{IfOk-weaker}
 use Rattle.artefact_tables.proofs.Puts.{two_put}

@@ -14,8 +14,8 @@ pub returns-in-Local : goal.returns-in-Local
 returns-in-Local c =
     IfOk-weaker c.put_counted.result _ _ (λ _ e. e ∙ ap (λ (r : Row). vec_items c.args.out.now ++ row_line (meant r)) (sym c.in-Local.is)) c.put_counted.ensures
 
-pub returns-in_ok-number : goal.returns-in_ok-number
-returns-in_ok-number c =
+pub returns-in_ok-number-in-Number : goal.returns-in_ok-number-in-Number
+returns-in_ok-number-in-Number c =
     let same : to_z w32 (of_z w32 c.in-Number.n) ≡ c.in-Number.n = search rules in
-    let bytes = c.as_bytes.ensures.value ∙ c.in_ok-number.ensures.ok ∙ ap signed_decimal same in
+    let bytes = c.as_bytes.ensures.value ∙ c.in_ok-number-in-Number.ensures.ok ∙ ap signed_decimal same in
     IfOk-weaker c.put_five.result _ _ (λ _ e. e ∙ ap (λ k. vec_items c.args.out.now ++ line (codes "number" ∷ codes "-" ∷ codes "-" ∷ codes "-" ∷ k ∷ [])) bytes ∙ ap (λ (r : Row). vec_items c.args.out.now ++ row_line (meant r)) (sym c.in-Number.is)) c.put_five.ensures
