@@ -1,6 +1,6 @@
 -- Whole artefacts: their tables, what tells them apart, and how long they are.
 use Rattle.std.proofs.Common.{◌≡◌, ℕ, zero, suc, ◌+◌, ◌≤◌, Bool, true, false, not, ◌&&◌, eqb, List, [], ◌∷◌, ◌++◌, map, length, Some, None, vec_items, codes, IsUtf8, decimal, sym, refl, ap, ◌∙◌, subst, arith}
-use Rattle.std.specs.List.{flat_map, AllByRecursion as All}
+use Rattle.std.specs.List.{flat_map, AllByRecursion}
 use Rattle.std.proofs.lemmas.Fmt.{decimal_digit}
 use Rattle.std.proofs.ByRecursion.{All-map, All-weaker}
 use Rattle.std.proofs.lemmas.Str.{IsUtf8-from_ascii}
@@ -84,15 +84,15 @@ pub wrote : (m : Module) (bytes : List ℕ) → bytes ≡ written m → Wrote m 
 wrote m bytes e = record { as_is = e; as_ruled = λ p says. e ∙ written_ruled m p says }
 
 -- the parts of a module of the rules keep their limits
-pub all_every : {X : Type 0} (f : X → Bool) (xs : List X) → every f xs ≡ true → All (λ x. f x ≡ true) xs
+pub all_every : {X : Type 0} (f : X → Bool) (xs : List X) → every f xs ≡ true → AllByRecursion (λ x. f x ≡ true) xs
 all_every f [] t = tt
 all_every f (x ∷ xs) t = let u = and_parts (f x) (every f xs) t in (u.0, all_every f xs u.1)
 
-every_all : {X : Type 0} (f : X → Bool) (xs : List X) → All (λ x. f x ≡ true) xs → every f xs ≡ true
+every_all : {X : Type 0} (f : X → Bool) (xs : List X) → AllByRecursion (λ x. f x ≡ true) xs → every f xs ≡ true
 every_all f [] a = refl
 every_all f (x ∷ xs) a = ap (λ b. b && every f xs) a.0 ∙ every_all f xs a.1
 
-pub headings_within : (es : List PureDefinition) → every definition_within es ≡ true → length (rows_of es) ≤ 128 → All HeadingWithin (map heading es)
+pub headings_within : (es : List PureDefinition) → every definition_within es ≡ true → length (rows_of es) ≤ 128 → AllByRecursion HeadingWithin (map heading es)
 headings_within [] t l = tt
 headings_within (e ∷ es) t l =
     let u = and_parts (definition_within e) (every definition_within es) t in
@@ -144,24 +144,24 @@ end_stop l rest w e =
     omega (arith, n)
 
 -- the tables of one text are one module's
-pub once_1 : (rs ss : List PureRequire) (x y : List ℕ) → All (λ q. require_within q ≡ true) rs → All (λ q. require_within q ≡ true) ss → Stops LawfulRequire x → Stops LawfulRequire y → flat_map require_line rs ++ x ≡ flat_map require_line ss ++ y → (rs ≡ ss) × (x ≡ y)
+pub once_1 : (rs ss : List PureRequire) (x y : List ℕ) → AllByRecursion (λ q. require_within q ≡ true) rs → AllByRecursion (λ q. require_within q ≡ true) ss → Stops LawfulRequire x → Stops LawfulRequire y → flat_map require_line rs ++ x ≡ flat_map require_line ss ++ y → (rs ≡ ss) × (x ≡ y)
 once_1 = read_once (λ q. require_within q ≡ true) require_line require_line_ended require_told
 
-pub once_2 : (hs gs : List Heading) (x y : List ℕ) → All HeadingWithin hs → All HeadingWithin gs → Stops LawfulHeading x → Stops LawfulHeading y → flat_map heading_line hs ++ x ≡ flat_map heading_line gs ++ y → (hs ≡ gs) × (x ≡ y)
+pub once_2 : (hs gs : List Heading) (x y : List ℕ) → AllByRecursion HeadingWithin hs → AllByRecursion HeadingWithin gs → Stops LawfulHeading x → Stops LawfulHeading y → flat_map heading_line hs ++ x ≡ flat_map heading_line gs ++ y → (hs ≡ gs) × (x ≡ y)
 once_2 = read_once HeadingWithin heading_line (entry_ended heading_columns) (entry_told heading_columns)
 
-pub once_3 : (qs ps : List PureRow) (x y : List ℕ) → All (λ q. row_within q ≡ true) qs → All (λ q. row_within q ≡ true) ps → Stops LawfulRow x → Stops LawfulRow y → flat_map row_line qs ++ x ≡ flat_map row_line ps ++ y → (qs ≡ ps) × (x ≡ y)
+pub once_3 : (qs ps : List PureRow) (x y : List ℕ) → AllByRecursion (λ q. row_within q ≡ true) qs → AllByRecursion (λ q. row_within q ≡ true) ps → Stops LawfulRow x → Stops LawfulRow y → flat_map row_line qs ++ x ≡ flat_map row_line ps ++ y → (qs ≡ ps) × (x ≡ y)
 once_3 = read_once (λ q. row_within q ≡ true) row_line (entry_ended row_columns) (entry_told row_columns)
 
 -- the parts that the code has read, as those of the rules
-heads_of : (ds : List Definition) → All FitsDefinition ds → (hs : List Heading) × EachHeads ds hs × All HeadingWithin hs
+heads_of : (ds : List Definition) → AllByRecursion FitsDefinition ds → (hs : List Heading) × EachHeads ds hs × AllByRecursion HeadingWithin hs
 heads_of [] a = ([], tt, tt)
 heads_of (d ∷ ds) a = let rest = heads_of ds a.1 in (a.0.0 ∷ rest.0, (a.0.1, rest.1), (a.0.2, rest.2))
 
-requires_fit : (xs : List Require) → All FitsRequire xs → All (λ q. require_within q ≡ true) (map require_of xs)
+requires_fit : (xs : List Require) → AllByRecursion FitsRequire xs → AllByRecursion (λ q. require_within q ≡ true) (map require_of xs)
 requires_fit xs a = All-map (λ q. require_within q ≡ true) require_of xs a
 
-rows_fit : (xs : List Row) → All FitsRow xs → All (λ q. row_within q ≡ true) (map meant xs)
+rows_fit : (xs : List Row) → AllByRecursion FitsRow xs → AllByRecursion (λ q. row_within q ≡ true) (map meant xs)
 rows_fit xs a = All-map (λ q. row_within q ≡ true) meant xs a
 
 pub parts_within : (m : Module) → PartsFit m → PartsWithin m
@@ -253,7 +253,7 @@ pub read_more : (bytes after : List ℕ) (m : Module) → Tables bytes after (So
 read_more bytes after m t n p limits is = n (says_all bytes after m p limits is t).1
 
 -- an artefact is text
-joined_low : {Q : Type 0} (line : Q → List ℕ) (qs : List Q) → All (λ q. low (line q) ≡ true) qs → low (flat_map line qs) ≡ true
+joined_low : {Q : Type 0} (line : Q → List ℕ) (qs : List Q) → AllByRecursion (λ q. low (line q) ≡ true) qs → low (flat_map line qs) ≡ true
 joined_low line [] a = refl
 joined_low line (q ∷ qs) a = low_append (line q) (flat_map line qs) a.0 (joined_low line qs a.1)
 

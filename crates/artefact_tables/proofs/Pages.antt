@@ -1,7 +1,7 @@
 -- How long an artefact can be.
 use Rattle.std.proofs.Common.{◌≡◌, ℕ, ◌+◌, ◌*◌, ◌<◌, ◌≤◌, true, ◌&&◌, leb, List, [], ◌∷◌, map, length, ℤ, pos, negsuc, codes, decimal, sym, ap, subst, mul-suc, arith}
 use Rattle.std.specs.Fmt.{signed_decimal}
-use Rattle.std.specs.List.{flat_map, AllByRecursion as All}
+use Rattle.std.specs.List.{flat_map, AllByRecursion}
 use Rattle.std.proofs.lemmas.Fmt.{length-decimal-le, length_signed_le}
 use Rattle.std.proofs.ByRecursion.{All-weaker}
 use Rattle.std.proofs.lemmas.List.{length-append, length-map}
@@ -99,7 +99,7 @@ require_short q t =
     let shift = length-decimal-le 1 q.shift (omega arith) (omega (arith, u.1)) (omega (arith, u.1)) in
     simp length-append (omega (arith, word_short q.from u.0, shift))
 
-joined_short : {Q : Type 0} (line : Q → List ℕ) (n : ℕ) (qs : List Q) → All (λ q. length (line q) ≤ n) qs → length (flat_map line qs) ≤ n * length qs
+joined_short : {Q : Type 0} (line : Q → List ℕ) (n : ℕ) (qs : List Q) → AllByRecursion (λ q. length (line q) ≤ n) qs → length (flat_map line qs) ≤ n * length qs
 joined_short line n [] a = omega arith
 joined_short line n (q ∷ qs) a =
     omega (arith, length-append (line q) (flat_map line qs), a.0, joined_short line n qs a.1, mul-suc n (length qs))

@@ -1,6 +1,6 @@
 -- Entries one after another: a text is one list of lines, and what stands after it.
 use Rattle.std.proofs.Common.{◌≡◌, ℕ, suc, ◌+◌, ◌<◌, ◌≤◌, List, [], ◌∷◌, ◌++◌, length, get_or, take, Some, None, sym, refl, ap, ◌∙◌, subst, arith, lit<, Bor}
-use Rattle.std.specs.List.{flat_map, AllByRecursion as All}
+use Rattle.std.specs.List.{flat_map, AllByRecursion}
 use Rattle.std.proofs.lemmas.List.{append-nil, append_assoc, take_more, take_all, flat_map_more, length-append}
 use Rattle.std.proofs.lemmas.Str.Pattern.{IsSplitOnceResult}
 use Rattle.artefact_tables.specs.Lines.{Lacks, Ended}
@@ -59,7 +59,7 @@ module _ {Q : Type 0} (Within : Q → Type 0) (line : Q → List ℕ) (ended : (
   abbrev Lawful : List ℕ → Type 0
   Lawful l = (q : Q) × Within q × (l ≡ line q)
 
-  pub read_once : (qs rs : List Q) (s t : List ℕ) → All Within qs → All Within rs → Stops Lawful s → Stops Lawful t → flat_map line qs ++ s ≡ flat_map line rs ++ t → (qs ≡ rs) × (s ≡ t)
+  pub read_once : (qs rs : List Q) (s t : List ℕ) → AllByRecursion Within qs → AllByRecursion Within rs → Stops Lawful s → Stops Lawful t → flat_map line qs ++ s ≡ flat_map line rs ++ t → (qs ≡ rs) × (s ≡ t)
   read_once [] [] s t v w n m e = (refl, e)
   read_once [] (r ∷ rs) s t v w n m e = absurd (n (line r) (flat_map line rs ++ t) (r, w.0, refl) (e ∙ append_assoc (line r) (flat_map line rs) t))
   read_once (q ∷ qs) [] s t v w n m e = absurd (m (line q) (flat_map line qs ++ s) (q, v.0, refl) (sym e ∙ append_assoc (line q) (flat_map line qs) s))

@@ -2,7 +2,7 @@
 use Rattle.std.specs.Prelude.{◌≡◌, ℕ, Bool, true, false, cond, List, [], ◌∷◌, Some, None, codes, Option, ◌≢◌, refl}
 use Rattle.std.proofs.Common.{sym, subst, arith}
 use Rattle.std.specs.Option.{option_map}
-use Rattle.std.specs.List.{AllByRecursion as All}
+use Rattle.std.specs.List.{AllByRecursion}
 use Rattle.std.specs.Str.{bytes_eq}
 use Rattle.std.proofs.lemmas.Slice.Eq.{bytes_eq-Decides}
 use Rattle.rules.specs.Words.{Spelling}
@@ -37,7 +37,7 @@ module _ {A : Type 0} where
   chain_some (Some y) f x e = (y, refl, e)
 
   -- what is picked was picked by its word
-  pub pick_some : (P : Type 0) (w : Spelling) (xs : List (Spelling × Option A)) (q : A) → All (λ x. w ≡ x.0 → x.1 ≡ Some q → P) xs → pick w xs ≡ Some q → P
+  pub pick_some : (P : Type 0) (w : Spelling) (xs : List (Spelling × Option A)) (q : A) → AllByRecursion (λ x. w ≡ x.0 → x.1 ≡ Some q → P) xs → pick w xs ≡ Some q → P
   pick_some P w [] q h e = none_some q e
   pick_some P w (x ∷ xs) q h e = by (bytes_eq w x.0) (bytes_eq-Decides w x.0).0 (pick_some P w xs q h.1) e
     where
@@ -46,7 +46,7 @@ module _ {A : Type 0} where
       by false same later f = later f
 
   -- a word that none stands under
-  pub pick_none : (w : Spelling) (xs : List (Spelling × Option A)) → All (λ x. w ≢ x.0) xs → pick w xs ≡ None
+  pub pick_none : (w : Spelling) (xs : List (Spelling × Option A)) → AllByRecursion (λ x. w ≢ x.0) xs → pick w xs ≡ None
   pick_none w [] h = refl
   pick_none w (x ∷ xs) h = by (bytes_eq w x.0) (bytes_eq-Decides w x.0).0 (pick_none w xs h.1)
     where

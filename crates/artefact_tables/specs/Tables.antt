@@ -1,7 +1,7 @@
 -- What the reader takes from the front of a text. Assumes nothing.
 use Rattle.std.specs.Prelude.{◌≡◌, ℕ, ◌<◌, ◌≤◌, Bool, true, false, List, ◌∷◌, ◌++◌, length, drop, Some, None, Ok, Err, vec_items, Option, Result, Vec, ◌≢◌}
 use Rattle.std.specs.declared.alloc.Global.{Global}
-use Rattle.std.specs.List.{flat_map, AllByRecursion as All}
+use Rattle.std.specs.List.{flat_map, AllByRecursion}
 use Rattle.rules.specs.Rows.{Module as PureModule}
 use Rattle.rules.specs.Artefact.{artefact}
 use Rattle.modules.specs.declared.module.Module.{Module}
@@ -21,7 +21,7 @@ Took line fits lawful before after (Some x) = (before ≡ line x ++ after) × fi
 -- the entries in front, as many as there are
 pub record Tabled {E : Type 0} (line : E → List ℕ) (fits : E → Type 0) (lawful : List ℕ → Type 0) (before after : List ℕ) (xs : List E) : Type 0 where
   pub lines : before ≡ flat_map line xs ++ after
-  pub fit : All fits xs
+  pub fit : AllByRecursion fits xs
   pub stops : Stops lawful after
 
 -- a line with that title in front, and what comes after it; or there is none
@@ -36,9 +36,9 @@ Section line fits lawful title before after (Some v) = (rest : List ℕ) × (bef
 
 -- the parts of a module keep their limits
 pub record PartsFit (m : Module) : Type 0 where
-  pub requires : All FitsRequire (vec_items m.required)
-  pub definitions : All FitsDefinition (vec_items m.definitions)
-  pub rows : All FitsRow (vec_items m.rows)
+  pub requires : AllByRecursion FitsRequire (vec_items m.required)
+  pub definitions : AllByRecursion FitsDefinition (vec_items m.definitions)
+  pub rows : AllByRecursion FitsRow (vec_items m.rows)
 
 -- the tables in front are those of a module, and no row comes after them; or they are those of none
 abbrev pub Tables : List ℕ → List ℕ → Option Module → Type 0

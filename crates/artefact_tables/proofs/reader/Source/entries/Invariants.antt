@@ -1,10 +1,10 @@
 use Rattle.std.proofs.Common.{◌≡◌, ◌++◌, length, vec_items}
-use Rattle.std.specs.List.{flat_map, AllByRecursion as All}
+use Rattle.std.specs.List.{flat_map, AllByRecursion}
 use Rattle.artefact_tables.proofs.reader.Source.entries.Given as goal
 
 abbrev pub invariant-loop-entry : goal.invariant-loop-entry
 invariant-loop-entry g l =
-    (l.initial.self.rest.now ≡ flat_map g.E.Entry.line (vec_items l.entries) ++ l.self.rest.now) × All g.E.Entry.Fits (vec_items l.entries)
+    (l.initial.self.rest.now ≡ flat_map g.E.Entry.line (vec_items l.entries) ++ l.self.rest.now) × AllByRecursion g.E.Entry.Fits (vec_items l.entries)
 
 abbrev pub decreases-loop-entry : goal.decreases-loop-entry
 decreases-loop-entry g l = length l.self.rest.now
