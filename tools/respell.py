@@ -1,6 +1,7 @@
 #!/usr/bin/env python3
 """Respells this repository's own definitions and lemmas as today's Rattle spells names: words in snake case, types in camel
-case. Run at the top, after the kit's port.py; a second run changes nothing. Strings, comments and the names that Rattle makes stay as they are.
+case. Run at the top, after the kit's port.py: it tells of names that fall together, and with --turn it writes. Strings,
+comments and the names that Rattle makes stay as they are.
 """
 import collections
 import os
