@@ -14,3 +14,6 @@ mod writer;
 pub use modules::{Definition, Kind, Module, Require, Row};
 pub use reader::read;
 pub use writer::{write, write_front};
+
+#[cfg(test)]
+mod tests;
