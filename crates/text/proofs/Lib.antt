@@ -1,6 +1,5 @@
 mod Means
 mod Trees
-mod Steps
 mod Numbers
 mod Scans
 mod Readers

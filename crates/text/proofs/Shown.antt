@@ -141,9 +141,9 @@ listing_more cs ds xs i out next fs kept l f k = by (drop i fs) refl (subst (λ 
     by [] d m same = absurd m
     by (g ∷ gs) d m same =
         let left : drop (i + 1) fs ≡ gs = sym (drop-drop 1 i fs) ∙ ap (drop 1) d in
-        let line : next ≡ out ++ form_line g = f g.datum (rw kept m.1) ∙ ap (λ n. out ++ form_line (record { offset = n; datum = g.datum })) m.0 in
+        let line : next ≡ out ++ form_line g = f g.datum (rw kept m.0.1) ∙ ap (λ n. out ++ form_line (record { offset = n; datum = g.datum })) m.0.0 in
         record {
-          rest = subst (λ (ys : List PureForm). Forms cs (drop (i + 1) xs) ys) (sym left) m.2;
+          rest = subst (λ (ys : List PureForm). Forms cs (drop (i + 1) xs) ys) (sym left) m.1;
           same = ap (λ ys. next ++ flat_map form_line ys) left ∙ ap (λ k. k ++ flat_map form_line gs) line ∙ append_assoc out (form_line g) (flat_map form_line gs) ∙ same;
         }
 
