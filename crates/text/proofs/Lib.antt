@@ -1,4 +1,5 @@
 mod Means
+mod Lists
 mod Trees
 mod Numbers
 mod Scans

@@ -1,12 +1,11 @@
 -- The reader, byte by byte.
 use Rattle.std.proofs.Common.{◌≡◌, ℕ, ◌+◌, ◌-◌, ◌<◌, ◌≤◌, true, false, cond, eqb, List, [], ◌∷◌, length, get_or, take, drop, Ok, Err, Result, sym, refl, ap, ◌∙◌, subst, arith, Bor}
 use Rattle.std.proofs.lemmas.List.{drop_all, drop_more}
-use Rattle.rules.specs.declared.cause.Cause.{Cause}
 use Rattle.rules.specs.Refusals.{Refusal as PureRefusal}
 use Rattle.rules.proofs.Readings.{faults_lie_within}
 use Rattle.rules.specs.Words.{item_byte, text_home}
 use Rattle.rules.specs.Words.{Home as PureHome}
-use Rattle.rules.specs.Reading.{Read, reads, refused, Progress, scan, finish, mark, placed, item_of, ended, read, nothing_read}
+use Rattle.rules.specs.Reading.{Read, reads, Progress, scan, finish, mark, placed, item_of, ended, read, nothing_read}
 use Rattle.rules.specs.Reading.{Form as PureForm}
 use Rattle.word.specs.declared.Word.{Word}
 use Rattle.word.specs.declared.home.Home.{Home}
@@ -18,12 +17,8 @@ use Rattle.text.specs.declared.reader.Reader.{Reader}
 use Rattle.word.specs.Words.{home_of, spelling}
 use Rattle.text.specs.Tree.{Built, RefusedAs, Finished, Within}
 use Rattle.text.specs.Reads.{pending, from, SteppedTo}
+use Rattle.text.proofs.Trees.{refused_through}
 use Rattle.text.proofs.Scans.{item_more, mark_done, item_refused, mark_refused, finish_pending, pending_more, pending_none, end_done, end_refused}
-
--- a refusal of one reading is a refusal of another
-refused_through : {A B : Type 0} (o : Read A) (u : Read B) (m : Word) → ((c : Cause) (k : ℕ) → o ≡ refused c k → u ≡ refused c k) → (f : ReadFault) → RefusedAs o m f → RefusedAs u m f
-refused_through o u m through (Refused f) (c, k, e, g) = (c, k, through c k e, g)
-refused_through o u m through Memory r = tt
 
 -- what the end of the item before `at` gives
 abbrev pub ended_item : Reader → ℕ → Progress → Read Progress

@@ -1,8 +1,8 @@
--- The tree of a text: what stands while cells are added, lists that are built from their end, and quotes that close.
+-- The tree of a text, byte by byte.
 use Rattle.std.proofs.Common.{◌≡◌, ℕ, ◌<◌, ◌≤◌, cond, eqb, leb, List, [], ◌∷◌, ◌++◌, reverse, length, sym, refl, ap, ◌∙◌, subst, vec_items, Vec, Ok, Err, Result, arith}
 use Rattle.std.specs.declared.alloc.Global.{Global}
 use mathlib.Core.List.{reverse-cons, reverse-append}
-use Rattle.std.proofs.lemmas.List.{append-nil, append_assoc, length-reverse, nil_from_length}
+use Rattle.std.proofs.lemmas.List.{length-reverse}
 use Rattle.std.proofs.lemmas.Bool.{cond-true, cond-false, ne_eqb, lt-leb, le-leb}
 use Rattle.rules.specs.declared.cause.Cause.{Cause}
 use Rattle.rules.specs.Words.{Datum, list_of}
@@ -14,76 +14,14 @@ use Rattle.text.specs.declared.tree.Open.{Open}
 use Rattle.text.specs.declared.refusal.ReadFault.{ReadFault}
 use Rattle.text.specs.declared.refusal.ReadFault.TheVariants.{Refused, Memory}
 use Rattle.text.specs.declared.tree.Form.{Form}
-use Rattle.text.specs.declared.tree.Text.{Text}
 use Rattle.word.specs.declared.Word.{Word}
 use Rattle.word.specs.declared.home.Home.{Home}
 use Rattle.text.specs.declared.tree.Tree.{Tree}
 use Rattle.word.specs.Words.{home_of}
 use Rattle.text.specs.Data.{Each, Stands, Grows, Quoted, Listed}
-use Rattle.text.specs.Tree.{FormIs, Forms, OpenIs, Opened, Built, Went, Steps, RefusedAs, Finished}
-use Rattle.text.proofs.Means.{stands_on, grows_not, grows_by, grows_twice, pair_pushed}
-
--- what holds of each pair of elements goes on to hold where one relation implies the other
-pub each_on : {A B : Type 0} (R S : A → B → Type 0) → ((a : A) (b : B) → R a b → S a b) → (xs : List A) (ys : List B) → Each R xs ys → Each S xs ys
-each_on R S f [] [] e = e
-each_on R S f [] (y ∷ ys) e = e
-each_on R S f (x ∷ xs) [] e = e
-each_on R S f (x ∷ xs) (y ∷ ys) e = (f x y e.0, each_on R S f xs ys e.1)
-
-pub each_push : {A B : Type 0} (R : A → B → Type 0) (xs : List A) (ys : List B) (x : A) (y : B) → Each R xs ys → R x y → Each R (xs ++ x ∷ []) (ys ++ y ∷ [])
-each_push R [] [] x y e r = (r, e)
-each_push R [] (b ∷ ys) x y e r = absurd e
-each_push R (a ∷ xs) [] x y e r = absurd e
-each_push R (a ∷ xs) (b ∷ ys) x y e r = (e.0, each_push R xs ys x y e.1 r)
-
-pub each_length : {A B : Type 0} (R : A → B → Type 0) (xs : List A) (ys : List B) → Each R xs ys → length xs ≡ length ys
-each_length R [] [] e = refl
-each_length R [] (b ∷ ys) e = absurd e
-each_length R (a ∷ xs) [] e = absurd e
-each_length R (a ∷ xs) (b ∷ ys) e = let l = each_length R xs ys e.1 in omega arith
-
--- the last of both lists
-pub record Last {A B : Type 0} (R : A → B → Type 0) (xs : List A) (x : A) (ys : List B) : Type 0 where
-  pub before : List B
-  pub last : B
-  pub is : ys ≡ before ++ last ∷ []
-  pub holds : R x last
-  pub each : Each R xs before
-
-pub each_last : {A B : Type 0} (R : A → B → Type 0) (xs : List A) (x : A) (ys : List B) → Each R (xs ++ x ∷ []) ys → Last R xs x ys
-each_last R [] x [] e = absurd e
-each_last R [] x (y ∷ []) e = record { before = []; last = y; is = refl; holds = e.0; each = tt }
-each_last R [] x (y ∷ (z ∷ ys)) e = absurd e.1
-each_last R (a ∷ xs) x [] e = absurd e
-each_last R (a ∷ xs) x (b ∷ ys) e =
-    let l = each_last R xs x ys e.1 in
-    record { before = b ∷ l.before; last = l.last; is = ap (λ zs. b ∷ zs) l.is; holds = l.holds; each = (e.0, l.each) }
-
--- a list that is built from its end: the values that are left, and the list of those behind them
-pub record Listing (cs es : List Cell) (vs left : List Value) (w : Value) : Type 0 where
-  pub grown : Grows cs es
-  pub each : (ds : List Datum) → Each (Stands cs) vs ds → (before : List Datum) × (done : List Datum) × (ds ≡ before ++ done) × Each (Stands cs) left before × Stands es w (list_of done)
-
-pub listing_first : (cs : List Cell) (vs left : List Value) → left ≡ vs → Listing cs cs vs left Value.Empty
-listing_first cs vs left n = record { grown = grows_not cs; each = λ ds e. (ds, [], sym (append-nil ds), rw n e, refl) }
-
-pub listing_more : (cs es fs : List Cell) (vs left less : List Value) (v w x : Value) → left ≡ less ++ v ∷ [] → x ≡ Value.Pair (length es) → fs ≡ es ++ record { head = v; tail = w } ∷ [] → Listing cs es vs left w → Listing cs fs vs less x
-listing_more cs es fs vs left less v w x n i e l = record {
-  grown = grows_twice cs es fs l.grown (grows_by es fs _ e);
-  each = λ ds m.
-      let k = l.each ds m in
-      let t = each_last (Stands cs) less v k.0 (subst (λ (xs : List Value). Each (Stands cs) xs k.0) n k.3) in
-      (t.before, t.last ∷ k.1, k.2 ∙ ap (λ xs. xs ++ k.1) t.is ∙ append_assoc t.before (t.last ∷ []) k.1, t.each, pair_pushed es fs v w x t.last (list_of k.1) i e (stands_on cs es v t.last l.grown t.holds) k.4);
-}
-
-pub listing_all : (cs es : List Cell) (vs left : List Value) (w : Value) → length left ≡ 0 → Listing cs es vs left w → Listed cs es vs w
-listing_all cs es vs left w n l = record {
-  grown = l.grown;
-  each = λ ds m.
-      let k = l.each ds m in
-      let none : k.0 ≡ [] = nil_from_length k.0 (sym (each_length (Stands cs) left k.0 k.3) ∙ n) in
-      subst (λ (xs : List Datum). Stands es w (list_of xs)) (sym (k.2 ∙ ap (λ xs. xs ++ k.1) none)) k.4;
-}
+use Rattle.text.specs.Tree.{FormIs, Forms, OpenIs, Opened, Built, Went, Steps, RefusedAs}
+use Rattle.text.proofs.Lists.{each_on, each_push, each_length}
+use Rattle.text.proofs.Means.{stands_on}
 
 -- what goes on to stand while cells are added
 open_on : (cs es : List Cell) → Grows cs es → (o : Open) (q : PureOpen) → OpenIs cs o q → OpenIs es o q
@@ -237,7 +175,7 @@ went_from x z y o (Ok u) e w = (w.0, w.1, w.2, w.3 ∙ e)
 went_from x z y o (Err f) e w = subst (λ (h : Home). RefusedAs o h.«module» f) e w
 
 -- a list closes, and what is added after it is as the rules say
-pub list_closed : (x z y : Tree) (at : ℕ) (vs : Vec Value Global) (list : Value) (r : Result (Unit {0}) ReadFault) → Beside x z → vec_items x.opened ≡ vec_items z.opened ++ Open.List vs ∷ [] → Listed (vec_items x.cells) (vec_items z.cells) (vec_items vs) list → ((d : Datum) → Stands (vec_items z.cells) list d → Steps (λ p. reads (settle (home_of z.home) p.begun p.forms p.opened d)) z y r) → Steps (λ p. close (home_of x.home) at p.begun p.forms p.opened) x y r
+pub list_closed : (x z y : Tree) (at : ℕ) (vs : Vec Value Global) (list : Value) (r : Result (Unit {0}) ReadFault) → Beside x z → vec_items x.opened ≡ vec_items z.opened ++ Open.List vs ∷ [] → Listed (vec_items x.cells) (vec_items z.cells) (vec_items vs) list → ((d : Datum) → Stands (vec_items z.cells) list d → Steps (λ h p. reads (settle h p.begun p.forms p.opened d)) z y r) → Steps (λ h p. close h at p.begun p.forms p.opened) x y r
 list_closed x z y at vs list r k n l add p b = by p.opened b (subst (λ (os : List Open). Opened (vec_items x.cells) os p.opened) (newest _ _ (Open.List vs) n) b.opened)
   where
     by : (os : List PureOpen) → Built x p → Opened (vec_items x.cells) (Open.List vs ∷ reverse (vec_items z.opened)) os → Went (close (home_of x.home) at p.begun p.forms os) x y r
@@ -246,38 +184,15 @@ list_closed x z y at vs list r k n l add p b = by p.opened b (subst (λ (os : Li
     by (bracket ds ∷ os) b o =
         went_from x z y (reads (settle (home_of x.home) p.begun p.forms os (list_of (reverse ds)))) r k.home (rw (← k.home) (add (list_of (reverse ds)) (l.each (reverse ds) o.0) (record { opened = os; begun = p.begun; forms = p.forms }) (built_beside x z p os k o.1 b)))
 
--- nothing to close, or a quote
-pub none_closes : (x y : Tree) (at : ℕ) (f : ReadFault) → vec_items x.opened ≡ [] → RefusedAs {A = Progress} (refused Cause.Unbalanced at) x.home.«module» f → Steps (λ p. close (home_of x.home) at p.begun p.forms p.opened) x y (Err f)
-none_closes x y at f n r p b = by p.opened (subst (λ (os : List Open). Opened (vec_items x.cells) (reverse os) p.opened) n b.opened)
-  where
-    by : (os : List PureOpen) → Opened (vec_items x.cells) [] os → RefusedAs (close (home_of x.home) at p.begun p.forms os) x.home.«module» f
-    by [] o = r
-    by (q ∷ os) o = absurd o
+-- a refusal of one reading is a refusal of another
+pub refused_through : {A B : Type 0} (o : Read A) (u : Read B) (m : Word) → ((c : Cause) (k : ℕ) → o ≡ refused c k → u ≡ refused c k) → (f : ReadFault) → RefusedAs o m f → RefusedAs u m f
+refused_through o u m through (Refused f) (c, k, e, g) = (c, k, through c k e, g)
+refused_through o u m through Memory r = tt
 
-pub quote_closes_not : (x y : Tree) (at : ℕ) (os : List Open) (f : ReadFault) → vec_items x.opened ≡ os ++ Open.Quote ∷ [] → RefusedAs {A = Progress} (refused Cause.Unbalanced at) x.home.«module» f → Steps (λ p. close (home_of x.home) at p.begun p.forms p.opened) x y (Err f)
-quote_closes_not x y at os f n r p b = by p.opened (subst (λ (os : List Open). Opened (vec_items x.cells) os p.opened) (newest _ _ Open.Quote n) b.opened)
-  where
-    by : (qs : List PureOpen) → Opened (vec_items x.cells) (Open.Quote ∷ reverse os) qs → RefusedAs (close (home_of x.home) at p.begun p.forms qs) x.home.«module» f
-    by [] o = absurd o
-    by (quoted ∷ qs) o = r
-    by (bracket ds ∷ qs) o = absurd o.0
-
--- the text ends
-pub ended_whole : (x : Tree) (end : ℕ) (m : Word) (t : Text) → vec_items x.opened ≡ [] → t.cells ≡ x.cells → t.forms ≡ x.forms → (p : Progress) → Built x p → Finished (ended end p.forms p.opened) m (Ok t)
-ended_whole x end m t n cells forms p b = by p.opened (subst (λ (os : List Open). Opened (vec_items x.cells) (reverse os) p.opened) n b.opened)
-  where
-    by : (os : List PureOpen) → Opened (vec_items x.cells) [] os → Finished (ended end p.forms os) m (Ok t)
-    by [] o = (reverse p.forms, refl, rw (cells, forms) b.forms)
-    by (q ∷ os) o = absurd o
-
--- a refusal says the same of another reading
-retold : (A B : Type 0) (c : Cause) (at : ℕ) (m : Word) (f : ReadFault) → RefusedAs {A = A} (refused c at) m f → RefusedAs {A = B} (refused c at) m f
-retold A B c at m (Refused f) (d, k, e, g) = let a : c ≡ d = cc in let b : at ≡ k = cc in (d, k, cc, g)
-retold A B c at m Memory r = tt
-
+-- the text ends inside a list or after a quote
 pub ended_inside : (x : Tree) (end : ℕ) (f : ReadFault) → 0 < length (vec_items x.opened) → RefusedAs {A = Progress} (refused Cause.Unbalanced end) x.home.«module» f → (p : Progress) → Built x p → RefusedAs (ended end p.forms p.opened) x.home.«module» f
 ended_inside x end f l r p b = by p.opened (opened_count x p b)
   where
     by : (os : List PureOpen) → length (vec_items x.opened) ≡ length os → RefusedAs (ended end p.forms os) x.home.«module» f
     by [] e = absurd (omega arith)
-    by (q ∷ os) e = retold _ _ Cause.Unbalanced end x.home.«module» f r
+    by (q ∷ os) e = refused_through (refused Cause.Unbalanced end) _ x.home.«module» (λ c k e. cc) f r

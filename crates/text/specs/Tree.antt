@@ -1,6 +1,7 @@
--- How the tree of a text that is being read stand for what the rules say has been read. Assumes nothing.
+-- How the tree of a text that is being read stands for what the rules say has been read. Assumes nothing.
 use Rattle.std.specs.Prelude.{◌≡◌, ℕ, ◌≤◌, List, reverse, Some, Ok, Err, vec_items, Result}
 use Rattle.rules.specs.declared.cause.Cause.{Cause}
+use Rattle.rules.specs.Words.{Home}
 use Rattle.rules.specs.Reading.{Read, reads, refused, Open as PureOpen, bracket, quoted, Progress}
 use Rattle.rules.specs.Reading.{Form as PureForm}
 use Rattle.rules.specs.Refusals.{placed}
@@ -11,7 +12,7 @@ use Rattle.text.specs.declared.tree.Open.{Open}
 use Rattle.text.specs.declared.tree.Form.{Form}
 use Rattle.text.specs.declared.tree.Text.{Text}
 use Rattle.text.specs.declared.tree.Tree.{Tree}
-use Rattle.word.specs.Words.{spelling}
+use Rattle.word.specs.Words.{spelling, home_of}
 use Rattle.text.specs.Data.{Stands, Each}
 use Rattle.text.specs.Refusals.{refusal_of}
 
@@ -50,9 +51,9 @@ abbrev pub Went : Read Progress → Tree → Tree → Result (Unit {0}) ReadFaul
 Went o x y (Ok _) = (p : Progress) × (o ≡ reads p) × Built y p × (y.home ≡ x.home)
 Went o x y (Err f) = RefusedAs o x.home.«module» f
 
--- the tree x was built as far as some progress, and f says what comes of that
-abbrev pub Steps : (Progress → Read Progress) → Tree → Tree → Result (Unit {0}) ReadFault → Type 0
-Steps f x y r = (p : Progress) → Built x p → Went (f p) x y r
+-- of a tree with its home, built to any progress, f says what one more byte or item makes
+abbrev pub Steps : (Home → Progress → Read Progress) → Tree → Tree → Result (Unit {0}) ReadFault → Type 0
+Steps f x y r = (p : Progress) → Built x p → Went (f (home_of x.home) p) x y r
 
 -- the whole text
 abbrev pub Finished : Read (List PureForm) → Word → Result Text ReadFault → Type 0

@@ -2,7 +2,7 @@
 ghost use Rattle.std.specs.Prelude.{◌≡◌, ◌<◌, ◌≤◌, [], length, if◌then◌else◌, nat_eq, slice_index};
 ghost use Rattle.rules.specs.Words.{text_home};
 ghost use Rattle.rules.specs.Reading.{Progress, reads, mark, placed, item_of, read};
-ghost use Rattle.word.specs.Words.{spelling, home_of};
+ghost use Rattle.word.specs.Words.{spelling};
 ghost use Rattle.text.specs.Tree.{Built, Steps, Finished, Within};
 ghost use Rattle.text.specs.Reads.{Stepped, from};
 
@@ -15,7 +15,7 @@ use word::{Home, Word, is_item_byte};
 
 // A byte that is part of no item.
 fn mark(tree: &mut Tree, b: u8, at: usize) -> Result<(), ReadFault>
-    ensures { Steps (mark (home_of tree.old.home) b at) tree.old tree.new result }
+    ensures { Steps (λ h. mark h b at) tree.old tree.new result }
 {
     match b as char {
         ' ' | '\n' => Ok(()),
@@ -28,7 +28,7 @@ fn mark(tree: &mut Tree, b: u8, at: usize) -> Result<(), ReadFault>
 
 // The item of these bytes, if there are any, which begins at an offset.
 fn end_item(tree: &mut Tree, item: &[u8], start: usize) -> Result<(), ReadFault>
-    ensures { Steps (λ p. if nat_eq (length item.now) 0 then reads p else placed (home_of tree.old.home) start p (item_of (home_of tree.old.home) item.now)) tree.old tree.new result }
+    ensures { Steps (λ h p. if nat_eq (length item.now) 0 then reads p else placed h start p (item_of h item.now)) tree.old tree.new result }
 {
     if item.is_empty() {
         return Ok(());

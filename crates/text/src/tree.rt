@@ -2,7 +2,6 @@
 ghost use Rattle.std.specs.Prelude.{◌≡◌, [], length, if◌then◌else◌, Some, nat_eq};
 ghost use Rattle.rules.specs.Words.{Datum};
 ghost use Rattle.rules.specs.Reading.{Open as PureOpen, Progress, bracket, quoted, reads, refused, nothing_read, nest, close, settle, placed, ended};
-ghost use Rattle.word.specs.Words.{home_of};
 ghost use Rattle.text.specs.Data.{Stands};
 ghost use Rattle.text.specs.Tree.{OpenIs, Built, Steps, RefusedAs, Finished};
 
@@ -78,12 +77,16 @@ impl Tree {
     fn start(&self, at: usize) -> usize
         ensures { result ≡ (if nat_eq (length self.now.opened.items) 0 then at else self.now.begun) }
     {
-        if self.opened.is_empty() { at } else { self.begun }
+        if self.opened.is_empty() {
+            at
+        } else {
+            self.begun
+        }
     }
 
     // A list or a quote opens at an offset.
     fn open(&mut self, part: Open, at: usize) -> Result<(), ReadFault>
-        ensures { (o : PureOpen) → OpenIs self.old.cells.items part o → Steps (λ p. nest p at o) self.old self.new result }
+        ensures { (o : PureOpen) → OpenIs self.old.cells.items part o → Steps (λ _ p. nest p at o) self.old self.new result }
     {
         if self.opened.len() >= 64 {
             return Err(self.refuse(Cause::NestedTooDeep, at));
@@ -95,7 +98,7 @@ impl Tree {
 
     /// A list opens at an offset.
     pub(crate) fn open_list(&mut self, at: usize) -> Result<(), ReadFault>
-        ensures { Steps (λ p. nest p at (bracket [])) self.old self.new result }
+        ensures { Steps (λ _ p. nest p at (bracket [])) self.old self.new result }
     {
         let items = Vec::new(*self.cells.allocator());
         self.open(Open::List(items), at)
@@ -103,14 +106,14 @@ impl Tree {
 
     /// A quote opens at an offset.
     pub(crate) fn open_quote(&mut self, at: usize) -> Result<(), ReadFault>
-        ensures { Steps (λ p. nest p at quoted) self.old self.new result }
+        ensures { Steps (λ _ p. nest p at quoted) self.old self.new result }
     {
         self.open(Open::Quote, at)
     }
 
     // A datum is complete: it closes the quotes around it, and goes into the innermost list, or is a form.
     fn add(&mut self, mut datum: Value) -> Result<(), ReadFault>
-        ensures { (d : Datum) → Stands self.old.cells.items datum d → Steps (λ p. reads (settle (home_of self.old.home) p.begun p.forms p.opened d)) self.old self.new result }
+        ensures { (d : Datum) → Stands self.old.cells.items datum d → Steps (λ h p. reads (settle h p.begun p.forms p.opened d)) self.old self.new result }
     {
         'around: while let Some(inner) = self.opened.pop() {
             match inner {
@@ -129,7 +132,7 @@ impl Tree {
 
     /// An item that begins at an offset.
     pub(crate) fn item(&mut self, datum: Value, at: usize) -> Result<(), ReadFault>
-        ensures { (d : Datum) → Stands self.old.cells.items datum d → Steps (λ p. placed (home_of self.old.home) at p (Some d)) self.old self.new result }
+        ensures { (d : Datum) → Stands self.old.cells.items datum d → Steps (λ h p. placed h at p (Some d)) self.old self.new result }
     {
         self.begun = self.start(at);
         self.add(datum)
@@ -137,7 +140,7 @@ impl Tree {
 
     /// The innermost list closes at an offset.
     pub(crate) fn close(&mut self, at: usize) -> Result<(), ReadFault>
-        ensures { Steps (λ p. close (home_of self.old.home) at p.begun p.forms p.opened) self.old self.new result }
+        ensures { Steps (λ h p. close h at p.begun p.forms p.opened) self.old self.new result }
     {
         match self.opened.pop() {
             Some(Open::List(items)) => {
