@@ -14,9 +14,9 @@ around-preserved c =
 
 pub returns-in-List : goal.returns-in-List
 returns-in-List c d s p b =
-    datum_joined c.args.self.now c.around.self (record { home = c.around.self.home; begun = c.around.self.begun; opened = c.push-in-List.new.self; cells = c.around.self.cells; forms = c.around.self.forms }) c.args.datum c.around.datum _ _ _ (record { home = refl; begun = refl; grown = grows_not _; forms = refl }) (rw c.in-List.is at c.in-Some.ensures.items) c.in_ok-push-in-List-2.ensures.items c.in_ok-push-in-List.ensures.items c.around.invariant p d b s
+    datum_joined c.args.self.now c.around.self _ c.args.datum c.around.datum _ _ _ (record { home = refl; begun = refl; grown = grows_not _; forms = refl }) (rw c.in-List.is at c.in-Some.ensures.items) c.in_ok-push-in-List-2.ensures.items c.in_ok-push-in-List.ensures.items c.around.invariant p d b s
 
 pub returns : goal.returns
 returns c d s p b =
     let none = c.in_default.ensures.cases in
-    form_added c.args.self.now c.around.self (record { home = c.around.self.home; begun = c.around.self.begun; opened = c.pop.new.self; cells = c.around.self.cells; forms = c.push-2.new.self }) c.args.datum c.around.datum (nil_from_length _ (sym c.around.self.opened.ok.0 ∙ none.0)) refl refl refl (nil_from_length _ (sym c.pop.new.self.ok.0 ∙ none.1)) c.in_ok-push.ensures.items c.around.invariant p d b s
+    form_added c.args.self.now c.around.self _ c.args.datum c.around.datum (nil_from_length _ (sym c.around.self.opened.ok.0 ∙ none.0)) refl refl refl (nil_from_length _ (sym c.pop.new.self.ok.0 ∙ none.1)) c.in_ok-push.ensures.items c.around.invariant p d b s

@@ -5,4 +5,4 @@ use Rattle.text.proofs.tree.Tree.close.Goals as goal
 pub returns-in_ok-list-in-Some-List : goal.returns-in_ok-list-in-Some-List
 returns-in_ok-list-in-Some-List c =
     let l = rw c.deref.ensures.value at c.in_ok-list-in-Some-List.ensures in
-    list_closed c.args.self.now (record { home = c.args.self.now.home; begun = c.args.self.now.begun; opened = c.pop.new.self; cells = c.push_list.new.cells; forms = c.args.self.now.forms }) c.add.new.self c.args.at c.in-Some-List.items _ c.add.result (record { home = refl; begun = refl; grown = l.grown; forms = refl }) (rw c.in-Some-List.field-0-is at c.in-Some-List.ensures.items) l c.add.ensures
+    list_closed c.args.self.now _ c.add.new.self c.args.at c.in-Some-List.items _ c.add.result (record { home = refl; begun = refl; grown = l.grown; forms = refl }) (rw c.in-Some-List.field-0-is at c.in-Some-List.ensures.items) l c.add.ensures
