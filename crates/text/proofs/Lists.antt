@@ -48,9 +48,6 @@ pub record Gathering (cs es : List Cell) (vs left : List Value) (w : Value) : Ty
   pub grown : Grows cs es
   pub each : (ds : List Datum) → Each (Stands cs) vs ds → (before : List Datum) × (done : List Datum) × (ds ≡ before ++ done) × Each (Stands cs) left before × Stands es w (list_of done)
 
-pub gathered_first : (cs : List Cell) (vs left : List Value) → left ≡ vs → Gathering cs cs vs left Value.Empty
-gathered_first cs vs left n = record { grown = grows_not cs; each = λ ds e. (ds, [], sym (append-nil ds), rw n e, refl) }
-
 pub gathered_more : (cs es fs : List Cell) (vs left less : List Value) (v w x : Value) → left ≡ less ++ v ∷ [] → x ≡ Value.Pair (length es) → fs ≡ es ++ record { head = v; tail = w } ∷ [] → Gathering cs es vs left w → Gathering cs fs vs less x
 gathered_more cs es fs vs left less v w x n i e l = record {
   grown = grows_twice cs es fs l.grown (grows_by es fs _ e);
@@ -58,13 +55,4 @@ gathered_more cs es fs vs left less v w x n i e l = record {
       let k = l.each ds m in
       let t = each_last (Stands cs) less v k.0 (subst (λ (xs : List Value). Each (Stands cs) xs k.0) n k.3) in
       (t.before, t.last ∷ k.1, k.2 ∙ ap (λ xs. xs ++ k.1) t.is ∙ append_assoc t.before (t.last ∷ []) k.1, t.each, pair_pushed es fs v w x t.last (list_of k.1) i e (stands_on cs es v t.last l.grown t.holds) k.4);
-}
-
-pub gathered_all : (cs es : List Cell) (vs left : List Value) (w : Value) → length left ≡ 0 → Gathering cs es vs left w → Listed cs es vs w
-gathered_all cs es vs left w n l = record {
-  grown = l.grown;
-  each = λ ds m.
-      let k = l.each ds m in
-      let none : k.0 ≡ [] = nil_from_length k.0 (sym (each_length (Stands cs) left k.0 k.3) ∙ n) in
-      subst (λ (xs : List Datum). Stands es w (list_of xs)) (sym (k.2 ∙ ap (λ xs. xs ++ k.1) none)) k.4;
 }

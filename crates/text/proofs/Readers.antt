@@ -92,18 +92,6 @@ pub record Reading (x : Reader) (home : Home) (bytes : List ℕ) (at : ℕ) : Ty
   pub begun : x.start ≤ at
   pub same : read (home_of home) bytes ≡ from x at (drop at bytes) progress
 
-pub reading_first : (x : Reader) (home : Home) (bytes : List ℕ) → Built x.tree nothing_read → x.tree.home ≡ home → x.bytes.now ≡ bytes → x.start ≡ 0 → Reading x home bytes 0
-reading_first x home bytes b h i s = record {
-  progress = nothing_read;
-  built = b;
-  home_same = h;
-  input = i;
-  begun = omega arith;
-  same =
-      let none : [] ≡ pending x.bytes.now x.start 0 = sym (ap (λ k. pending x.bytes.now k 0) s ∙ pending_none x.bytes.now 0) in
-      ap (λ (k : Home). scan (home_of k) bytes 0 [] nothing_read) (sym h) ∙ ap (λ pend. scan (home_of x.tree.home) bytes 0 pend nothing_read) none;
-}
-
 left_to_read : (x : Reader) (bytes : List ℕ) (at : ℕ) (p : Progress) → at < length bytes → from x at (drop at bytes) p ≡ from x at (get_or bytes at 0 ∷ drop (at + 1) bytes) p
 left_to_read x bytes at p a = ap (λ rest. from x at rest p) (drop_more bytes at 0 a)
 

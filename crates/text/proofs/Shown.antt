@@ -148,13 +148,3 @@ listing_more x y xs i out next fs kept l f k = by (drop i fs) refl (subst (λ (y
           rest = subst (λ (ys : List PureForm). Forms x.now (drop (i + 1) xs) ys) (sym left) m.1;
           same = ap (λ ys. next ++ flat_map form_line ys) left ∙ ap (λ k. k ++ flat_map form_line gs) line ∙ append_assoc out (form_line g) (flat_map form_line gs) ∙ same;
         }
-
-pub listing_all : (cs : List Cell) (xs : List Form) (i : ℕ) (out : List ℕ) (fs : List PureForm) → length xs ≤ i → Listing cs xs i out fs → out ≡ flat_map form_line fs
-listing_all cs xs i out fs l k = by (drop i fs) (subst (λ (ys : List Form). Forms cs ys (drop i fs)) (drop_all i xs l) k.rest) k.same
-  where
-    by : (gs : List PureForm) → Forms cs [] gs → out ++ flat_map form_line gs ≡ flat_map form_line fs → out ≡ flat_map form_line fs
-    by [] m same = sym (append-nil out) ∙ same
-    by (g ∷ gs) m same = absurd m
-
-pub forms_through : (cs es : List Cell) (xs ys : List Form) (fs : List PureForm) → es ≡ cs → ys ≡ xs → Forms cs xs fs → Forms es ys fs
-forms_through cs es xs ys fs e f m = subst (λ (ks : List Cell). Forms ks ys fs) (sym e) (subst (λ (ks : List Form). Forms cs ks fs) (sym f) m)
