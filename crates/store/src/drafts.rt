@@ -8,9 +8,8 @@ ghost use Rattle.store.specs.Drafted.{draft_says, draft_rows, drafted, drafts_ta
 ghost use Rattle.store.specs.Maps.{Writes, Keeps};
 ghost use Rattle.store.specs.Rows.{saying, place_for, written};
 
-use super::rows::{Key, Keyed, count, deliver, place, row_of, strike, write};
-use super::{Change, Kind, Miss, NotTaken, Store};
-use word::Word;
+use super::rows::{Keyed, count, deliver, place, row_of, strike, write};
+use super::{Change, Key, Miss, NotTaken, Store};
 
 const ROOM: usize = 1024;
 
@@ -137,48 +136,45 @@ impl<S: Store> Store for Drafts<S> {
 
     ghost clears = { λ d n k e. drafts_clear n k (S.Store.holds d.below) (draft_rows d.rows) e };
 
-    fn length(&self, name: Word, kind: Kind) -> Option<usize> {
-        match row_of(&self.rows, Key { name, kind }) {
+    fn length(&self, key: Key) -> Option<usize> {
+        match row_of(&self.rows, key) {
             Some(row) => count(row.held()),
-            None => self.below.length(name, kind),
+            None => self.below.length(key),
         }
     }
 
-    fn fetch(&self, name: Word, kind: Kind, out: &mut [u8]) -> Result<usize, Miss> {
-        match row_of(&self.rows, Key { name, kind }) {
+    fn fetch(&self, key: Key, out: &mut [u8]) -> Result<usize, Miss> {
+        match row_of(&self.rows, key) {
             Some(row) => deliver(row.held(), out),
-            None => self.below.fetch(name, kind, out),
+            None => self.below.fetch(key, out),
         }
     }
 
-    fn takes(&self, name: Word, kind: Kind, change: Change) -> bool {
-        let key = Key { name, kind };
+    fn takes(&self, key: Key, change: Change) -> bool {
         match change {
             Change::Put(len) => len <= ROOM && place(&self.rows, key).is_some(),
-            Change::Remove => self.below.length(name, kind).is_none()
-                || place(&self.rows, key).is_some(),
+            Change::Remove => self.below.length(key).is_none() || place(&self.rows, key).is_some(),
         }
     }
 
-    fn put(&mut self, name: Word, kind: Kind, bytes: &[u8]) -> Result<(), NotTaken>
-        ensures test { is_ok result ≡ drafts_take self.old.rows (S.Store.holds self.old.below) (spelling name) kind (Change.Put (length bytes.now)) }
-        ensures after { Writes (is_ok result) (drafted self.old.rows (S.Store.holds self.old.below)) (drafted self.new.rows (S.Store.holds self.new.below)) (spelling name) kind (Some bytes.now) }
+    fn put(&mut self, key: Key, bytes: &[u8]) -> Result<(), NotTaken>
+        ensures test { is_ok result ≡ drafts_take self.old.rows (S.Store.holds self.old.below) (spelling key.name) key.kind (Change.Put (length bytes.now)) }
+        ensures after { Writes (is_ok result) (drafted self.old.rows (S.Store.holds self.old.below)) (drafted self.new.rows (S.Store.holds self.new.below)) (spelling key.name) key.kind (Some bytes.now) }
         ensures same { Keeps (is_ok result) (drafts_take self.old.rows (S.Store.holds self.old.below)) (drafts_take self.new.rows (S.Store.holds self.new.below)) }
-        ensures rows { draft_rows self.new.rows ≡ (if is_ok result then written (draft_rows self.old.rows) (record { name = name; kind = kind }) (Some bytes.now) else draft_rows self.old.rows) }
+        ensures rows { draft_rows self.new.rows ≡ (if is_ok result then written (draft_rows self.old.rows) key (Some bytes.now) else draft_rows self.old.rows) }
         ensures below { self.new.below ≡ self.old.below }
     {
-        write(&mut self.rows, Key { name, kind }, bytes)
+        write(&mut self.rows, key, bytes)
     }
 
-    fn remove(&mut self, name: Word, kind: Kind) -> Result<(), NotTaken>
-        ensures test { is_ok result ≡ drafts_take self.old.rows (S.Store.holds self.old.below) (spelling name) kind Change.Remove }
-        ensures after { Writes (is_ok result) (drafted self.old.rows (S.Store.holds self.old.below)) (drafted self.new.rows (S.Store.holds self.new.below)) (spelling name) kind None }
+    fn remove(&mut self, key: Key) -> Result<(), NotTaken>
+        ensures test { is_ok result ≡ drafts_take self.old.rows (S.Store.holds self.old.below) (spelling key.name) key.kind Change.Remove }
+        ensures after { Writes (is_ok result) (drafted self.old.rows (S.Store.holds self.old.below)) (drafted self.new.rows (S.Store.holds self.new.below)) (spelling key.name) key.kind None }
         ensures same { Keeps (is_ok result) (drafts_take self.old.rows (S.Store.holds self.old.below)) (drafts_take self.new.rows (S.Store.holds self.new.below)) }
-        ensures rows { draft_rows self.new.rows ≡ removed (S.Store.holds self.old.below (spelling name) kind) (draft_rows self.old.rows) (record { name = name; kind = kind }) }
+        ensures rows { draft_rows self.new.rows ≡ removed (S.Store.holds self.old.below (spelling key.name) key.kind) (draft_rows self.old.rows) key }
         ensures below { self.new.below ≡ self.old.below }
     {
-        let key = Key { name, kind };
-        if self.below.length(name, kind).is_some() {
+        if self.below.length(key).is_some() {
             return hide(&mut self.rows, key);
         }
         strike(&mut self.rows, key);

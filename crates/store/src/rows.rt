@@ -47,7 +47,7 @@ fn is_sought<R: Keyed>(row: &R, key: Option<Key>) -> bool
     ensures { result ≡ sought key (R.Keyed.says row.now) }
 {
     match (row.key(), key) {
-        (Some(own), Some(key)) => own.name.same(&key.name) && own.kind.same(key.kind),
+        (Some(own), Some(key)) => own.name.same(&key.name) && own.kind == key.kind,
         (None, None) => true,
         _ => false,
     }

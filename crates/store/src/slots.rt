@@ -7,9 +7,8 @@ ghost use Rattle.store.specs.Maps.{Writes, Keeps};
 ghost use Rattle.store.specs.Rows.{written, struck, emptied};
 ghost use Rattle.store.specs.Slotted.{slot_says, slot_rows, stood, taken, taken_fresh};
 
-use super::rows::{Key, Keyed, count, deliver, empty, place, row_of, strike, write};
-use super::{Change, Kind, Miss, NotTaken, Store};
-use word::Word;
+use super::rows::{Keyed, count, deliver, empty, place, row_of, strike, write};
+use super::{Change, Key, Miss, NotTaken, Store};
 
 const ROOM: usize = 8192;
 
@@ -101,43 +100,43 @@ impl Store for Slots<'_> {
 
     ghost clears = { λ s n k e. refl };
 
-    fn length(&self, name: Word, kind: Kind) -> Option<usize> {
-        match row_of(self.slots, Key { name, kind }) {
+    fn length(&self, key: Key) -> Option<usize> {
+        match row_of(self.slots, key) {
             Some(slot) => count(slot.held()),
             None => None,
         }
     }
 
-    fn fetch(&self, name: Word, kind: Kind, out: &mut [u8]) -> Result<usize, Miss> {
-        match row_of(self.slots, Key { name, kind }) {
+    fn fetch(&self, key: Key, out: &mut [u8]) -> Result<usize, Miss> {
+        match row_of(self.slots, key) {
             Some(slot) => deliver(slot.held(), out),
             None => Err(Miss::Absent),
         }
     }
 
-    fn takes(&self, name: Word, kind: Kind, change: Change) -> bool {
+    fn takes(&self, key: Key, change: Change) -> bool {
         match change {
-            Change::Put(len) => len <= ROOM && place(self.slots, Key { name, kind }).is_some(),
+            Change::Put(len) => len <= ROOM && place(self.slots, key).is_some(),
             Change::Remove => true,
         }
     }
 
-    fn put(&mut self, name: Word, kind: Kind, bytes: &[u8]) -> Result<(), NotTaken>
-        ensures test { is_ok result ≡ taken self.old.slots.now (spelling name) kind (Change.Put (length bytes.now)) }
-        ensures after { Writes (is_ok result) (stood self.old.slots.now) (stood self.new.slots.now) (spelling name) kind (Some bytes.now) }
+    fn put(&mut self, key: Key, bytes: &[u8]) -> Result<(), NotTaken>
+        ensures test { is_ok result ≡ taken self.old.slots.now (spelling key.name) key.kind (Change.Put (length bytes.now)) }
+        ensures after { Writes (is_ok result) (stood self.old.slots.now) (stood self.new.slots.now) (spelling key.name) key.kind (Some bytes.now) }
         ensures same { Keeps (is_ok result) (taken self.old.slots.now) (taken self.new.slots.now) }
-        ensures rows { slot_rows self.new.slots.now ≡ (if is_ok result then written (slot_rows self.old.slots.now) (record { name = name; kind = kind }) (Some bytes.now) else slot_rows self.old.slots.now) }
+        ensures rows { slot_rows self.new.slots.now ≡ (if is_ok result then written (slot_rows self.old.slots.now) key (Some bytes.now) else slot_rows self.old.slots.now) }
     {
-        write(self.slots, Key { name, kind }, bytes)
+        write(self.slots, key, bytes)
     }
 
-    fn remove(&mut self, name: Word, kind: Kind) -> Result<(), NotTaken>
+    fn remove(&mut self, key: Key) -> Result<(), NotTaken>
         ensures test { is_ok result ≡ true }
-        ensures after { Writes (is_ok result) (stood self.old.slots.now) (stood self.new.slots.now) (spelling name) kind None }
+        ensures after { Writes (is_ok result) (stood self.old.slots.now) (stood self.new.slots.now) (spelling key.name) key.kind None }
         ensures same { Keeps (is_ok result) (taken self.old.slots.now) (taken self.new.slots.now) }
-        ensures rows { slot_rows self.new.slots.now ≡ struck (slot_rows self.old.slots.now) (record { name = name; kind = kind }) }
+        ensures rows { slot_rows self.new.slots.now ≡ struck (slot_rows self.old.slots.now) key }
     {
-        strike(self.slots, Key { name, kind });
+        strike(self.slots, key);
         Ok(())
     }
 }

@@ -1,5 +1,4 @@
 use Rattle.std.proofs.Common.{leb, length, is_ok, Some, refl}
-use Rattle.store.specs.declared.rows.Key.{Key}
 use Rattle.store.specs.Drafted.{draft_rows, taken_over}
 use Rattle.store.specs.Rows.{written}
 use Rattle.store.proofs.Looks.{write_writes, write_keeps}
@@ -10,7 +9,7 @@ returns g c =
     let below = g.S.Store.holds c.args.self.now.below in
     let rows = draft_rows c.args.self.now.rows in
     let after = draft_rows c.write.new.rows in
-    let key : Key = record { name = c.args.name; kind = c.args.kind } in
+    let key = c.args.key in
     let v = Some c.args.bytes.now in
     let ok = is_ok c.write.result in
     let h = c.write.ensures in

@@ -1,5 +1,4 @@
 use Rattle.std.proofs.Common.{leb, length, is_ok, Some}
-use Rattle.store.specs.declared.rows.Key.{Key}
 use Rattle.store.specs.Rows.{nothing, written}
 use Rattle.store.specs.Slotted.{slot_rows, taken_by}
 use Rattle.store.proofs.Looks.{write_writes, write_keeps}
@@ -9,7 +8,7 @@ pub returns : goal.returns
 returns c =
     let rows = slot_rows c.args.self.now.slots.now in
     let after = slot_rows c.write.new.rows in
-    let key : Key = record { name = c.args.name; kind = c.args.kind } in
+    let key = c.args.key in
     let v = Some c.args.bytes.now in
     let ok = is_ok c.write.result in
     let h = c.write.ensures in

@@ -7,7 +7,7 @@ use Rattle.store.proofs.slots.SlotsStore.remove.Goals as goal
 pub returns : goal.returns
 returns c = record {
   test = refl;
-  after = struck_writes (slot_rows c.args.self.now.slots.now) (slot_rows c.strike.new.rows) (record { name = c.args.name; kind = c.args.kind }) nothing refl c.strike.ensures;
+  after = struck_writes (slot_rows c.args.self.now.slots.now) (slot_rows c.strike.new.rows) c.args.key nothing refl c.strike.ensures;
   same = tt;
   rows = c.strike.ensures;
 }
