@@ -4,7 +4,7 @@ use Rattle.std.specs.Option.{option_map}
 use Rattle.std.proofs.lemmas.Bool.{both_ways}
 use Rattle.word.specs.Words.{spelling}
 use Rattle.store.specs.declared.Change.TheVariants.{Remove}
-use Rattle.store.specs.declared.rows.Key.{Key}
+use Rattle.store.specs.declared.Key.{Key}
 use Rattle.store.specs.Maps.{Map, Writes, Keeps}
 use Rattle.store.specs.Rows.{Line, saying, place_for, set_at, written, struck, over}
 use Rattle.store.specs.Drafted.{taken_over, removed}

@@ -1,14 +1,16 @@
 -- What rows say of each entry, and after each change of them.
-use Rattle.std.proofs.Common.{◌≡◌, ℕ, zero, suc, ◌<◌, ◌≤◌, min, Bool, true, false, cond, ◌&&◌, ltb, ◌⊎◌, List, [], ◌∷◌, ◌++◌, map, length, get_or, take, set, is_some, Some, None, Option, sym, refl, ap, ◌∙◌, inl, inr, arith}
+use Rattle.std.proofs.Common.{◌≡◌, ℕ, zero, suc, ◌+◌, ◌<◌, ◌≤◌, min, Bool, true, false, cond, ◌&&◌, ltb, ◌⊎◌, List, [], ◌∷◌, ◌++◌, map, length, get_or, take, set, is_some, MatchOption, Some, None, Option, subst, sym, refl, ap, ◌∙◌, inl, inr, arith}
+use Rattle.std.specs.List.{position_from, find}
+use Rattle.std.specs.Option.{option_map}
 use Rattle.std.proofs.lemmas.Slice.Eq.{bytes_eq-Decides}
 use Rattle.std.proofs.lemmas.List.{get_or-map, map-set, set-get_or, take_at}
 use Rattle.std.proofs.lemmas.Bool.{and_parts, both_ways, false≢true, lt-ltb}
 use Rattle.word.specs.Words.{spelling}
 use Rattle.store.specs.declared.Kind.{Kind}
 use Rattle.store.specs.declared.Kind.TheVariants.{Text, Artefact}
-use Rattle.store.specs.declared.rows.Key.{Key}
+use Rattle.store.specs.declared.Key.{Key}
 use Rattle.store.specs.Maps.{same_kind, same_place, Writes, Keeps, Map, Taken}
-use Rattle.store.specs.Rows.{Line, said, saying, is_at, is_free, first, look, or_else, place_for, set_at, written, cleared, struck, emptied, over}
+use Rattle.store.specs.Rows.{Line, said, saying, is_at, is_free, look, or_else, place_for, set_at, written, cleared, struck, emptied, over}
 use Rattle.store.proofs.Firsts.{FirstAt, first_at}
 
 same_kind_path : (a b : Kind) → same_kind a b ≡ true → a ≡ b
@@ -33,20 +35,6 @@ module _ (n : List ℕ) (k : Kind) where
   at_same : (x : Line) (m : List ℕ) (j : Kind) → same_place n k m j ≡ true → is_at m j x ≡ is_at n k x
   at_same x m j t = let e = place_same n k m j t in cc
 
-  module _ (base : Option (List ℕ)) where
-    look_first : (xs : List Line) (m : ℕ) (d : Line) → FirstAt (is_at n k) xs m → look xs n k base ≡ said (get_or xs m d)
-    look_first [] m d h = absurd h
-    look_first (x ∷ xs) zero d h = rw h
-    look_first (x ∷ xs) (suc m) d h = let f = h.0 in rw f (look_first xs m d h.1)
-
-    look_none : (xs : List Line) (c : ℕ) → None ≡ first (is_at n k) xs c → look xs n k base ≡ base
-    look_none [] c e = refl
-    look_none (x ∷ xs) c e = by (λ h. look_none xs (suc c) h) (is_at n k x) refl
-      where
-        by : (None ≡ first (is_at n k) xs (suc c) → look xs n k base ≡ base) → (b : Bool) → is_at n k x ≡ b → look (x ∷ xs) n k base ≡ base
-        by more true t = let z : None ≡ Some c = rw t at e in absurd (let y : ◌≡◌ {A = ℕ} 0 1 = cc in omega arith)
-        by more false t = let z : None ≡ first (is_at n k) xs (suc c) = rw t at e in rw t (more z)
-
   -- the rows that an entry may be written to
   abbrev Goes : List Line → ℕ → Type 0
   Goes [] m = ⊥
@@ -62,19 +50,19 @@ module _ (n : List ℕ) (k : Kind) where
   free_none None t = refl
   free_none (Some s) t = absurd (false≢true t)
 
-  goes_free : (xs : List Line) (m c : ℕ) → None ≡ first (is_at n k) xs c → FirstAt is_free xs m → Goes xs m
+  goes_free : (xs : List Line) (m c : ℕ) → None ≡ position_from (is_at n k) c xs → FirstAt is_free xs m → Goes xs m
   goes_free [] m c e h = h
   goes_free (x ∷ xs) zero c e h = inr (free_none x h)
-  goes_free (x ∷ xs) (suc m) c e h = by (λ z. goes_free xs m (suc c) z h.1) (is_at n k x) refl
+  goes_free (x ∷ xs) (suc m) c e h = by (λ z. goes_free xs m (c + 1) z h.1) (is_at n k x) refl
     where
-      by : (None ≡ first (is_at n k) xs (suc c) → Goes xs m) → (b : Bool) → is_at n k x ≡ b → Goes (x ∷ xs) (suc m)
+      by : (None ≡ position_from (is_at n k) (c + 1) xs → Goes xs m) → (b : Bool) → is_at n k x ≡ b → Goes (x ∷ xs) (suc m)
       by more true t = let z : None ≡ Some c = rw t at e in absurd (let y : ◌≡◌ {A = ℕ} 0 1 = cc in omega arith)
-      by more false t = let z : None ≡ first (is_at n k) xs (suc c) = rw t at e in (t, more z)
+      by more false t = let z : None ≡ position_from (is_at n k) (c + 1) xs = rw t at e in (t, more z)
 
   goes_place : (xs : List Line) (i : ℕ) → place_for xs n k ≡ Some i → Goes xs i
-  goes_place xs i e = by (first (is_at n k) xs 0) refl (sym e)
+  goes_place xs i e = by (position_from (is_at n k) 0 xs) refl (sym e)
     where
-      by : (o : Option ℕ) → o ≡ first (is_at n k) xs 0 → Some i ≡ or_else o (first is_free xs 0) → Goes xs i
+      by : (o : Option ℕ) → o ≡ position_from (is_at n k) 0 xs → Some i ≡ or_else o (position_from is_free 0 xs) → Goes xs i
       by (Some m) f g =
           let h : m ≡ i = cc in
           goes_at xs i (first_at (is_at n k) xs i (ap Some (sym h) ∙ f))
@@ -134,12 +122,31 @@ module _ (n : List ℕ) (k : Kind) where
             rw (t, f) (cleared_other x (look xs m j base) t)
 
 -- the row that was found, by what it says, or that none was
-module _ {X : Type 0} (f : X → Line) (xs : List X) (n : List ℕ) (k : Kind) where
-  pub look_found : (i : ℕ) (x : X) → Some i ≡ first (is_at n k) (map f xs) 0 → i < length xs → x ≡ get_or xs i x → (b : Option (List ℕ)) → look (map f xs) n k b ≡ said (f x)
-  look_found i x e l is b = look_first n k b (map f xs) i (f x) (first_at (is_at n k) (map f xs) i e) ∙ ap said (get_or-map f xs i x (f x) l ∙ ap f (sym is))
+module _ {X : Type 0} (f : X → Line) (n : List ℕ) (k : Kind) where
+  abbrev Says : List X → Option X → Type 0
+  Says xs o = MatchOption o ((b : Option (List ℕ)) → look (map f xs) n k b ≡ b) (λ x. (b : Option (List ℕ)) → look (map f xs) n k b ≡ said (f x))
 
-  pub look_missed : None ≡ first (is_at n k) (map f xs) 0 → (b : Option (List ℕ)) → look (map f xs) n k b ≡ b
-  look_missed e b = look_none n k b (map f xs) 0 e
+  says_more : (x : X) (xs : List X) (o : Option X) → is_at n k (f x) ≡ false → Says xs o → Says (x ∷ xs) o
+  says_more x xs None t h = λ b. rw t (h b)
+  says_more x xs (Some y) t h = λ b. rw t (h b)
+
+  look_find : (xs : List X) → Says xs (find (λ x. is_at n k (f x)) xs)
+  look_find [] = λ b. refl
+  look_find (x ∷ xs) = by (look_find xs) (is_at n k (f x)) refl
+    where
+      by : Says xs (find (λ y. is_at n k (f y)) xs) → (c : Bool) → is_at n k (f x) ≡ c → Says (x ∷ xs) (find (λ y. is_at n k (f y)) (x ∷ xs))
+      by more true t =
+          let h : (b : Option (List ℕ)) → look (map f (x ∷ xs)) n k b ≡ said (f x) = λ b. rw t in
+          let e : find (λ y. is_at n k (f y)) (x ∷ xs) ≡ Some x = rw t in
+          subst (Says (x ∷ xs)) (sym e) h
+      by more false t =
+          let h = says_more x xs (find (λ y. is_at n k (f y)) xs) t more in
+          let e : find (λ y. is_at n k (f y)) (x ∷ xs) ≡ find (λ y. is_at n k (f y)) xs = rw t in
+          subst (Says (x ∷ xs)) (sym e) h
+
+  pub look_found : {R : Type 0} (now : R → X) (o : Option R) (xs : List X) → option_map now o ≡ find (λ x. is_at n k (f x)) xs → MatchOption o ((b : Option (List ℕ)) → look (map f xs) n k b ≡ b) (λ r. (b : Option (List ℕ)) → look (map f xs) n k b ≡ said (f (now r)))
+  look_found now None xs e = subst (Says xs) (sym e) (look_find xs)
+  look_found now (Some r) xs e = subst (Says xs) (sym e) (look_find xs)
 
 -- a row that was written, or left since the bytes do not fit
 module _ {X : Type 0} (f : X → Line) (xs : List X) (key : Key) (i : ℕ) (e : Some i ≡ place_for (map f xs) (spelling key.name) key.kind) where
@@ -189,18 +196,18 @@ look_emptied (r ∷ rows) n k b = look_emptied rows n k b
 pub over_emptied : (rows after : List Line) → after ≡ emptied rows → (n : List ℕ) (k : Kind) (below : Map) → over after below n k ≡ below n k
 over_emptied rows after e n k below = ap (λ rs. over rs below n k) e ∙ look_emptied rows n k (below n k)
 
-first_emptied : (rows : List Line) (n : List ℕ) (k : Kind) (c : ℕ) → first (is_at n k) (emptied rows) c ≡ None
+first_emptied : (rows : List Line) (n : List ℕ) (k : Kind) (c : ℕ) → position_from (is_at n k) c (emptied rows) ≡ None
 first_emptied [] n k c = refl
-first_emptied (r ∷ rows) n k c = first_emptied rows n k (suc c)
+first_emptied (r ∷ rows) n k c = first_emptied rows n k (c + 1)
 
-free_emptied : (rows : List Line) → is_some (first is_free (emptied rows) 0) ≡ ltb 0 (length rows)
+free_emptied : (rows : List Line) → is_some (position_from is_free 0 (emptied rows)) ≡ ltb 0 (length rows)
 free_emptied [] = refl
 free_emptied (r ∷ rows) = sym (lt-ltb 0 (length (r ∷ rows)) (omega arith))
 
 pub place_emptied : (rows after : List Line) → after ≡ emptied rows → (n : List ℕ) (k : Kind) → is_some (place_for after n k) ≡ ltb 0 (length rows)
 place_emptied rows after e n k =
     ap (λ rs. is_some (place_for rs n k)) e
-    ∙ ap (λ o. is_some (or_else o (first is_free (emptied rows) 0))) (first_emptied rows n k 0)
+    ∙ ap (λ o. is_some (or_else o (position_from is_free 0 (emptied rows)))) (first_emptied rows n k 0)
     ∙ free_emptied rows
 
 -- bytes that were copied to the front of an array, and are read again up to their length

@@ -1,101 +1,32 @@
 //! Drafts over a store: a few rows that win over what is below.
-ghost use Rattle.std.specs.Prelude.{◌≡◌, ℕ, List, length, replicate, is_some, is_ok, if◌then◌else◌, Some, None, nat_le};
+ghost use Rattle.std.specs.Prelude.{◌≡◌, ℕ, List, length, replicate, is_some, is_ok, if◌then◌else◌, Some, None};
 ghost use Rattle.word.specs.Words.{spelling};
 ghost use Rattle.store.specs.declared.Change.{Change};
 ghost use Rattle.store.specs.declared.Kind.{Kind};
 ghost use Rattle.store.specs.Clears.{drafts_clear};
-ghost use Rattle.store.specs.Drafted.{draft_says, draft_rows, drafted, drafts_take, taken_fresh, removed};
+ghost use Rattle.store.specs.Drafted.{draft_rows, drafted, drafts_take, taken_fresh, removed};
 ghost use Rattle.store.specs.Maps.{Writes, Keeps};
-ghost use Rattle.store.specs.Rows.{saying, place_for, written};
+ghost use Rattle.store.specs.Rows.{place_for, written};
 
-use super::rows::{Keyed, count, deliver, place, row_of, strike, write};
+use super::row::Row;
+use super::rows::{deliver, place, row_of, strike, write};
 use super::{Change, Key, Miss, NotTaken, Store};
 
 const ROOM: usize = 1024;
 
 const ROWS: usize = 8;
 
-/// Whose draft a row is, and how many bytes it has: none where it marks an absence.
-#[derive(Clone, Copy)]
-struct Head {
-    key: Key,
-    len: Option<usize>,
-}
-
-/// Room for the draft of one entry.
-#[derive(Clone, Copy)]
-struct DraftRow {
-    head: Option<Head>,
-    bytes: [u8; ROOM],
-}
-
-impl DraftRow {
-    /// A row with no draft.
-    fn new() -> DraftRow
-        ensures { draft_says result ≡ None }
-    {
-        DraftRow {
-            head: None,
-            bytes: [0; ROOM],
-        }
-    }
-
-    /// Marks an entry as absent.
-    fn hide(&mut self, key: Key)
-        ensures { draft_says self.new ≡ saying key None }
-    {
-        self.head = Some(Head { key, len: None });
-    }
-}
-
-impl Keyed for DraftRow {
-    ghost says = { draft_says };
-
-    ghost fits = { λ n. nat_le n 1024 };
-
-    fn key(&self) -> Option<Key> {
-        match self.head {
-            Some(head) => Some(head.key),
-            None => None,
-        }
-    }
-
-    fn held(&self) -> Option<&[u8]> {
-        let head = self.head?;
-        let len = head.len?.min(ROOM);
-        Some(&self.bytes[0..len])
-    }
-
-    fn fill(&mut self, key: Key, bytes: &[u8]) -> Result<(), NotTaken> {
-        let len = bytes.len();
-        if len > ROOM {
-            return Err(NotTaken);
-        }
-        self.bytes[0..len].copy_from_slice(bytes);
-        self.head = Some(Head {
-            key,
-            len: Some(len),
-        });
-        Ok(())
-    }
-
-    fn free(&mut self) {
-        self.head = None;
-    }
-}
+/// Room for one draft: its bytes, or a mark that its entry is absent.
+type DraftRow = Row<Option<usize>, ROOM>;
 
 /// Marks an entry as absent in the row that it goes to.
 fn hide(rows: &mut [DraftRow], key: Key) -> Result<(), NotTaken>
     ensures test { is_ok result ≡ is_some (place_for (draft_rows rows.old) (spelling key.name) key.kind) }
     ensures after { draft_rows rows.new ≡ written (draft_rows rows.old) key None }
 {
-    match place(rows, key) {
-        Some(i) => {
-            rows[i].hide(key);
-            Ok(())
-        }
-        None => Err(NotTaken),
-    }
+    let i = place(rows, key).ok_or(NotTaken)?;
+    rows[i].hide(key);
+    Ok(())
 }
 
 /// Drafts over a store, which they never alter.
@@ -138,7 +69,7 @@ impl<S: Store> Store for Drafts<S> {
 
     fn length(&self, key: Key) -> Option<usize> {
         match row_of(&self.rows, key) {
-            Some(row) => count(row.held()),
+            Some(row) => row.held().map(|bytes| bytes.len()),
             None => self.below.length(key),
         }
     }

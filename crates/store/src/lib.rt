@@ -12,16 +12,17 @@ ghost use Rattle.store.specs.Maps.{kind_named, change_to, answered, fronted, Wri
 
 mod copy;
 mod drafts;
+mod row;
 mod rows;
 mod slots;
 
 pub use copy::{CopyFault, copy_entry};
 pub use drafts::Drafts;
-pub use rows::Key;
 pub use slots::{Slot, Slots};
 use std::fmt;
 use std::fmt::Display;
 use std::str::FromStr;
+use word::Word;
 
 /// What an entry is: a module's text, or what was built of it.
 #[derive(Clone, Copy, PartialEq, Eq, Debug)]
@@ -54,6 +55,13 @@ impl FromStr for Kind {
             _ => Err(UnknownKind),
         }
     }
+}
+
+/// The name and kind of an entry.
+#[derive(Clone, Copy)]
+pub struct Key {
+    pub name: Word,
+    pub kind: Kind,
 }
 
 /// A change of one entry: to that many bytes, or to nothing. It says which, as `None` in the place of a length would not.

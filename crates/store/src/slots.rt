@@ -1,79 +1,20 @@
 //! A store in memory that the caller lends, in places of one size.
-ghost use Rattle.std.specs.Prelude.{◌≡◌, ℕ, true, ◌&&◌, List, length, is_ok, if◌then◌else◌, Some, None, nat_le, refl};
+ghost use Rattle.std.specs.Prelude.{◌≡◌, ℕ, true, ◌&&◌, List, length, is_ok, if◌then◌else◌, Some, None, refl};
 ghost use Rattle.word.specs.Words.{spelling};
 ghost use Rattle.store.specs.declared.Change.{Change};
 ghost use Rattle.store.specs.declared.Kind.{Kind};
 ghost use Rattle.store.specs.Maps.{Writes, Keeps};
 ghost use Rattle.store.specs.Rows.{written, struck, emptied};
-ghost use Rattle.store.specs.Slotted.{slot_says, slot_rows, stood, taken, taken_fresh};
+ghost use Rattle.store.specs.Slotted.{slot_rows, stood, taken, taken_fresh};
 
-use super::rows::{Keyed, count, deliver, empty, place, row_of, strike, write};
+use super::row::Row;
+use super::rows::{deliver, empty, place, row_of, strike, write};
 use super::{Change, Key, Miss, NotTaken, Store};
 
 const ROOM: usize = 8192;
 
-/// Whose bytes a slot holds, and how many.
-#[derive(Clone, Copy)]
-struct Head {
-    key: Key,
-    len: usize,
-}
-
 /// Room for one entry.
-#[derive(Clone, Copy)]
-pub struct Slot {
-    head: Option<Head>,
-    bytes: [u8; ROOM],
-}
-
-impl Slot {
-    /// A slot with nothing in it.
-    pub fn new() -> Slot
-        ensures { slot_says result ≡ None }
-    {
-        Slot {
-            head: None,
-            bytes: [0; ROOM],
-        }
-    }
-}
-
-impl Keyed for Slot {
-    ghost says = { slot_says };
-
-    ghost fits = { λ n. nat_le n 8192 };
-
-    fn key(&self) -> Option<Key> {
-        match self.head {
-            Some(head) => Some(head.key),
-            None => None,
-        }
-    }
-
-    fn held(&self) -> Option<&[u8]> {
-        match self.head {
-            Some(head) => {
-                let n = head.len.min(ROOM);
-                Some(&self.bytes[0..n])
-            }
-            None => None,
-        }
-    }
-
-    fn fill(&mut self, key: Key, bytes: &[u8]) -> Result<(), NotTaken> {
-        let len = bytes.len();
-        if len > ROOM {
-            return Err(NotTaken);
-        }
-        self.bytes[0..len].copy_from_slice(bytes);
-        self.head = Some(Head { key, len });
-        Ok(())
-    }
-
-    fn free(&mut self) {
-        self.head = None;
-    }
-}
+pub type Slot = Row<usize, ROOM>;
 
 /// A store in the caller's memory.
 #[derive(Drop)]
@@ -101,17 +42,13 @@ impl Store for Slots<'_> {
     ghost clears = { λ s n k e. refl };
 
     fn length(&self, key: Key) -> Option<usize> {
-        match row_of(self.slots, key) {
-            Some(slot) => count(slot.held()),
-            None => None,
-        }
+        let slot = row_of(self.slots, key)?;
+        slot.held().map(|bytes| bytes.len())
     }
 
     fn fetch(&self, key: Key, out: &mut [u8]) -> Result<usize, Miss> {
-        match row_of(self.slots, key) {
-            Some(slot) => deliver(slot.held(), out),
-            None => Err(Miss::Absent),
-        }
+        let slot = row_of(self.slots, key).ok_or(Miss::Absent)?;
+        deliver(slot.held(), out)
     }
 
     fn takes(&self, key: Key, change: Change) -> bool {
