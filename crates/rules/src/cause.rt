@@ -41,10 +41,12 @@ impl Cause {
     {
         self as u8
     }
+}
 
-    // The cause in plain words.
-    fn explanation(self) -> &'static str {
-        match self {
+// The cause in plain words.
+impl fmt::Display for Cause {
+    fn fmt<W: fmt::Write>(&self, f: &mut fmt::Formatter<W>) -> fmt::Result {
+        f.write_str(match self {
             Cause::NotAWord => "the name is no word",
             Cause::TextTooLong => "the text is longer than 1,024 bytes",
             Cause::TooFewPages => "there are fewer pages than modules",
@@ -71,13 +73,7 @@ impl Cause {
             Cause::TooManyPairs => "more than 2,048 pairs",
             Cause::TooManyCalls => "more than 128 calls open at once",
             Cause::OutputTooLong => "more than 4,096 bytes of output",
-        }
-    }
-}
-
-impl fmt::Display for Cause {
-    fn fmt<W: fmt::Write>(&self, f: &mut fmt::Formatter<W>) -> fmt::Result {
-        f.write_str(self.explanation())
+        })
     }
 }
 

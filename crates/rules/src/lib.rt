@@ -12,5 +12,5 @@ pub use laws::{
     answers_depend_on_the_reach, faults_lie_within_the_text, reading_depends_on_bytes_and_home,
     worked_keys_hold,
 };
-pub use primitive::Primitive;
+pub use primitive::{Primitive, UnknownPrimitive};
 pub use reserved::is_reserved;

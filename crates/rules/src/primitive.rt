@@ -1,6 +1,8 @@
 //! The primitives.
-ghost use Rattle.std.specs.Prelude.{◌≡◌};
+ghost use Rattle.std.specs.Prelude.{◌≡◌, Some, None, MatchResult};
 ghost use Rattle.rules.specs.Words.{prim_named, prim_spelling, arity_of};
+
+use std::str::FromStr;
 
 /// What rows can do with data and numbers.
 #[derive(Clone, Copy, PartialEq, Eq, Debug)]
@@ -19,28 +21,35 @@ pub enum Primitive {
     Print,
 }
 
-impl Primitive {
-    /// The primitive of that name.
-    pub fn named(text: &str) -> Option<Primitive>
-        ensures { result ≡ prim_named text.now }
-    {
+/// A text that names no primitive.
+#[derive(Clone, Copy, PartialEq, Eq, Debug)]
+pub struct UnknownPrimitive;
+
+impl FromStr for Primitive {
+    type Err = UnknownPrimitive;
+
+    ghost from_str_gives = { λ text r. MatchResult r (λ p. prim_named text ≡ Some p) (λ _. prim_named text ≡ None) };
+
+    fn from_str(text: &str) -> Result<Primitive, UnknownPrimitive> {
         match text {
-            "add" => Some(Primitive::Add),
-            "sub" => Some(Primitive::Sub),
-            "mul" => Some(Primitive::Mul),
-            "less" => Some(Primitive::Less),
-            "same" => Some(Primitive::Same),
-            "pair" => Some(Primitive::Pair),
-            "head" => Some(Primitive::Head),
-            "tail" => Some(Primitive::Tail),
-            "is-pair" => Some(Primitive::IsPair),
-            "is-number" => Some(Primitive::IsNumber),
-            "is-name" => Some(Primitive::IsName),
-            "print" => Some(Primitive::Print),
-            _ => None,
+            "add" => Ok(Primitive::Add),
+            "sub" => Ok(Primitive::Sub),
+            "mul" => Ok(Primitive::Mul),
+            "less" => Ok(Primitive::Less),
+            "same" => Ok(Primitive::Same),
+            "pair" => Ok(Primitive::Pair),
+            "head" => Ok(Primitive::Head),
+            "tail" => Ok(Primitive::Tail),
+            "is-pair" => Ok(Primitive::IsPair),
+            "is-number" => Ok(Primitive::IsNumber),
+            "is-name" => Ok(Primitive::IsName),
+            "print" => Ok(Primitive::Print),
+            _ => Err(UnknownPrimitive),
         }
     }
+}
 
+impl Primitive {
     /// Its name.
     pub fn as_str(self) -> &'static str
         ensures { result.now ≡ prim_spelling self }

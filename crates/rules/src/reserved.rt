@@ -11,6 +11,6 @@ pub fn is_reserved(text: &str) -> bool
     match text {
         "require" | "define" | "define-macro" | "for-syntax" => true,
         "quote" | "if" | "set" | "do" | "let" => true,
-        _ => Primitive::named(text).is_some(),
+        _ => text.parse::<Primitive>().is_ok(),
     }
 }

@@ -4,7 +4,7 @@ ghost use Rattle.table.specs.Keys.{same_spelling, same_bound, same_variable};
 ghost use Rattle.std.specs.Str.{bytes_eq};
 ghost use Rattle.table.specs.Equals.{bytes, along, numbers, both};
 ghost use Rattle.std.specs.Prelude.{nat_eq};
-ghost use Rattle.word.specs.declared.Home.{Home};
+ghost use Rattle.word.specs.declared.home.Home.{Home};
 ghost use Rattle.table.specs.declared.keys.BoundKey.{BoundKey};
 ghost use Rattle.table.specs.declared.keys.VariableKey.{VariableKey};
 

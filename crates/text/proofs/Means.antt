@@ -3,7 +3,7 @@ use Rattle.std.proofs.Common.{◌≡◌, ℕ, ◌≤◌, List, [], ◌∷◌, �
 use Rattle.std.proofs.lemmas.List.{append-nil, append_assoc, get_or_append_left, get_or_push, length_push}
 use Rattle.rules.specs.Words.{Datum, number, word, empty, pair}
 use Rattle.word.specs.declared.Word.{Word}
-use Rattle.word.specs.declared.Home.{Home}
+use Rattle.word.specs.declared.home.Home.{Home}
 use Rattle.text.specs.declared.data.Value.{Value}
 use Rattle.text.specs.declared.data.Cell.{Cell}
 use Rattle.word.specs.Words.{spelling, home_of}

@@ -9,7 +9,7 @@ use Rattle.rules.specs.Words.{Home as PureHome}
 use Rattle.rules.specs.Reading.{Read, reads, refused, Progress, scan, finish, mark, placed, item_of, ended, read, nothing_read}
 use Rattle.rules.specs.Reading.{Form as PureForm}
 use Rattle.word.specs.declared.Word.{Word}
-use Rattle.word.specs.declared.Home.{Home}
+use Rattle.word.specs.declared.home.Home.{Home}
 use Rattle.text.specs.declared.refusal.ReadFault.{ReadFault}
 use Rattle.text.specs.declared.refusal.ReadFault.TheVariants.{Refused, Memory}
 use Rattle.text.specs.declared.tree.Text.{Text}

@@ -4,7 +4,7 @@ use Rattle.std.specs.Fmt.{signed_decimal}
 use Rattle.std.proofs.lemmas.List.{append-nil, append_assoc, drop_more, drop-drop, drop_all}
 use Rattle.std.proofs.lemmas.Bool.{true≢false}
 use Rattle.rules.specs.Words.{Datum, number, word, empty, pair}
-use Rattle.word.specs.declared.Name.{Name}
+use Rattle.word.specs.declared.name.Name.{Name}
 use Rattle.text.specs.declared.data.Value.{Value}
 use Rattle.text.specs.declared.data.Value.TheVariants.{Number, Word, Empty, Pair}
 use Rattle.text.specs.declared.data.Cell.{Cell}

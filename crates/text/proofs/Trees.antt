@@ -7,7 +7,7 @@ use Rattle.std.proofs.lemmas.Bool.{true≢false, false≢true, ltb-false}
 use Rattle.rules.specs.Words.{Datum, list_of}
 use Rattle.rules.specs.Reading.{Open, bracket, quoted, settle, quote_of}
 use Rattle.rules.specs.Reading.{Form as PureForm}
-use Rattle.word.specs.declared.Home.{Home}
+use Rattle.word.specs.declared.home.Home.{Home}
 use Rattle.text.specs.declared.data.Value.{Value}
 use Rattle.text.specs.declared.data.Cell.{Cell}
 use Rattle.text.specs.declared.tree.Part.{Part}

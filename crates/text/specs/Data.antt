@@ -2,8 +2,8 @@
 use Rattle.std.specs.Prelude.{◌≡◌, ℕ, ◌<◌, List, ◌++◌, length, pos, slice_index_or}
 use Rattle.rules.specs.Words.{Datum, number, word, empty, pair}
 use Rattle.rules.specs.Reading.{quote_of}
-use Rattle.word.specs.declared.Name.{Name}
-use Rattle.word.specs.declared.Home.{Home}
+use Rattle.word.specs.declared.name.Name.{Name}
+use Rattle.word.specs.declared.home.Home.{Home}
 use Rattle.text.specs.declared.data.Value.{Value}
 use Rattle.text.specs.declared.data.Cell.{Cell}
 use Rattle.word.specs.Words.{spelling, home_of}

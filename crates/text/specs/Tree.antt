@@ -6,7 +6,7 @@ use Rattle.rules.specs.Reading.{Read, reads, refused, Open, bracket, quoted, Pro
 use Rattle.rules.specs.Reading.{Form as PureForm}
 use Rattle.rules.specs.Refusals.{placed}
 use Rattle.word.specs.declared.Word.{Word}
-use Rattle.word.specs.declared.Home.{Home}
+use Rattle.word.specs.declared.home.Home.{Home}
 use Rattle.text.specs.declared.data.Value.{Value}
 use Rattle.text.specs.declared.data.Cell.{Cell}
 use Rattle.text.specs.declared.refusal.ReadFault.{ReadFault}

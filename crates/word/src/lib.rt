@@ -2,10 +2,17 @@
 
 #![tactic(auto)]
 
-ghost use Rattle.std.specs.Prelude.{◌≡◌, true, false, length, codes, MatchOption};
-ghost use Rattle.std.specs.Str.{bytes_eq};
-ghost use Rattle.rules.specs.Words.{letter, item_byte, is_word, text_home};
-ghost use Rattle.word.specs.Words.{spelling, home_of, same_instance, same_name, Shown};
+ghost use Rattle.std.specs.Prelude.{◌≡◌, true, false, codes, MatchResult};
+ghost use Rattle.rules.specs.Words.{letter, item_byte, item_bytes, is_word};
+ghost use Rattle.word.specs.Words.{spelling, same_spelling, same_instance, same_name, Shown, printed};
+ghost use Rattle.word.specs.Equality.{spelling_partial, spelling_equivalence};
+
+mod home;
+mod name;
+
+pub use home::Home;
+pub use name::Name;
+use std::fmt;
 
 /// Whether a byte is a letter.
 pub fn is_letter(b: u8) -> bool
@@ -21,40 +28,75 @@ pub fn is_item_byte(b: u8) -> bool
     matches!(b as char, 'a'..='z' | '0'..='9' | '-')
 }
 
-/// A word: its first `len` bytes, or all twelve where `len` says more.
-#[derive(Clone, Copy)]
+// Whether every byte may stand in an item.
+fn are_item_bytes(bytes: &[u8]) -> bool
+    ensures { result ≡ item_bytes bytes.now }
+{
+    bytes.iter().all(|b| is_item_byte(*b))
+}
+
+// Whether bytes are a word.
+fn is_word(bytes: &[u8]) -> bool
+    ensures { result ≡ is_word bytes.now }
+{
+    match bytes {
+        [first, rest @ ..] => is_letter(*first) && are_item_bytes(rest) && rest.len() <= 11,
+        [] => false,
+    }
+}
+
+/// A word: its first `len` bytes, or all twelve where `len` says more. Slots, cells and keys hold words by value, in memory
+/// that is fixed or lent, so a word is an array with its length and no `String`.
+#[derive(Clone, Copy, Debug)]
 pub struct Word {
     bytes: [u8; 12],
     len: u8,
 }
 
-impl Word {
-    /// The word that is spelled so, if it is one.
-    pub fn parse(bytes: &[u8]) -> Option<Word>
-        ensures { MatchOption result (is_word bytes.now ≡ false) (λ w. (is_word bytes.now ≡ true) × (spelling w ≡ bytes.now)) }
-    {
-        if bytes.is_empty() || bytes.len() > 12 || !is_letter(bytes[0]) {
-            return None;
-        }
-        for b in bytes {
-            if !is_item_byte(*b) {
-                return None;
-            }
+/// Bytes that are no word.
+#[derive(Clone, Copy, PartialEq, Eq, Debug)]
+pub struct NotAWord;
+
+impl TryFrom<&[u8]> for Word {
+    type Error = NotAWord;
+
+    ghost try_from_gives = { λ bytes r. MatchResult r (λ w. (is_word bytes.now ≡ true) × (spelling w ≡ bytes.now)) (λ _. is_word bytes.now ≡ false) };
+
+    fn try_from(bytes: &[u8]) -> Result<Word, NotAWord> {
+        if !is_word(bytes) {
+            return Err(NotAWord);
         }
         let mut held = [0u8; 12];
         held[0..bytes.len()].copy_from_slice(bytes);
-        Some(Word {
+        Ok(Word {
             bytes: held,
             len: bytes.len() as u8,
         })
     }
+}
 
+// By hand: bytes past the length do not count.
+impl PartialEq for Word {
+    ghost eq = { same_spelling };
+
+    ghost laws = { spelling_partial };
+
+    fn eq(&self, other: &Word) -> bool {
+        self.as_bytes() == other.as_bytes()
+    }
+}
+
+impl Eq for Word {
+    ghost laws = { spelling_equivalence };
+}
+
+impl Word {
     /// The word `quote`.
     pub fn quote() -> Word
         ensures { spelling result ≡ codes "quote" }
     {
         Word {
-            bytes: [b'q', b'u', b'o', b't', b'e', 0, 0, 0, 0, 0, 0, 0],
+            bytes: *b"quote\0\0\0\0\0\0\0",
             len: 5,
         }
     }
@@ -71,59 +113,23 @@ impl Word {
     pub fn as_str(&self) -> &str
         ensures { Shown (spelling self.now) result.now }
     {
-        match std::str::from_utf8(self.as_bytes()) {
-            Ok(text) => text,
-            Err(_) => "",
-        }
-    }
-
-    /// Whether two words are spelled alike.
-    pub fn same(&self, other: &Word) -> bool
-        ensures { result ≡ bytes_eq (spelling self.now) (spelling other.now) }
-    {
-        self.as_bytes() == other.as_bytes()
+        std::str::from_utf8(self.as_bytes()).unwrap_or("")
     }
 }
 
-/// An instance: a module, and by how many phases it is moved. It is also where a word was read: its home.
-#[derive(Clone, Copy)]
-pub struct Home {
-    pub module: Word,
-    pub base: u8,
-}
+impl fmt::Display for Word {
+    ghost output = { λ w. printed (spelling w) };
 
-impl Home {
-    /// Where the words of a module's text are at home.
-    pub fn of_text(of: Word) -> Home
-        ensures instance { result.«module» ≡ of }
-        ensures home { home_of result ≡ text_home (spelling of) }
-    {
-        Home {
-            module: of,
-            base: 0,
-        }
-    }
-
-    /// Whether two homes are the same.
-    pub fn same(&self, other: &Home) -> bool
-        ensures { result ≡ same_instance self.now other.now }
-    {
-        self.module.same(&other.module) && self.base == other.base
+    fn fmt<W: fmt::Write>(&self, f: &mut fmt::Formatter<W>) -> fmt::Result {
+        f.write_str(self.as_str())
     }
 }
 
-/// A word with its home.
-#[derive(Clone, Copy)]
-pub struct Name {
-    pub word: Word,
-    pub home: Home,
-}
-
-impl Name {
-    /// Whether two names have one spelling and one home.
-    pub fn same(&self, other: &Name) -> bool
-        ensures { result ≡ same_name self.now other.now }
-    {
-        self.word.same(&other.word) && self.home.same(&other.home)
-    }
+/// Homes are equal where they are one instance, as the rules say, and names where they have one spelling and one home.
+pub fn equality_is_as_ruled() -> bool
+    ensures yes { result ≡ true }
+    ensures homes { (a b : Home) → ⟦<Home as PartialEq>⟧.eq a b ≡ same_instance a b }
+    ensures names { (a b : Name) → ⟦<Name as PartialEq>⟧.eq a b ≡ same_name a b }
+{
+    true // for every two homes and names
 }

@@ -2,7 +2,7 @@ use Rattle.std.proofs.Common.{◌≡◌, Err, Result, sym, ap, ◌∙◌, subst,
 use Rattle.std.proofs.lemmas.Result.{err_from_is_err_and}
 use Rattle.text.specs.declared.refusal.ReadFault.{ReadFault}
 use Rattle.text.specs.declared.tree.Text.{Text}
-use Rattle.word.specs.declared.Home.{Home}
+use Rattle.word.specs.declared.home.Home.{Home}
 use Rattle.text.specs.Tree.{Finished}
 use Rattle.word.specs.Words.{home_of, spelling}
 use Rattle.rules.specs.Reading.{read}

@@ -1,9 +1,6 @@
-use Rattle.std.proofs.Common.{ℕ, List, IsUtf8, refl, subst}
-use Rattle.word.proofs.Spellings.{word_is_text}
+use Rattle.std.proofs.Common.{refl}
+use Rattle.word.proofs.Spellings.{shown_or_none}
 use Rattle.word.proofs.Word.as_str.Goals as goal
 
-pub returns-in-Err : goal.returns-in-Err
-returns-in-Err c =
-    let P : List ℕ → Type 0 = λ bs. IsUtf8 bs → ⊥ in
-    let no_text = subst P c.as_bytes.ensures c.in-Err.ensures.cases.0 in
-    (λ u. absurd (no_text u), λ w. absurd (no_text (word_is_text _ w)), λ _. refl)
+pub returns : goal.returns
+returns c = rw (c.unwrap_or.ensures, ← c.as_bytes.ensures) (shown_or_none _ _ _ _ refl c.from_utf8.ensures.cases)
