@@ -58,7 +58,7 @@ impl FromStr for Kind {
 }
 
 /// The name and kind of an entry.
-#[derive(Clone, Copy)]
+#[derive(Clone, Copy, PartialEq, Eq, Debug)]
 pub struct Key {
     pub name: Word,
     pub kind: Kind,

@@ -73,13 +73,7 @@ impl<L: Length, const ROOM: usize> Row<L, ROOM> {
     pub(crate) fn is_of(&self, key: Option<Key>) -> bool
         ensures { result ≡ sought key (row_says L.counts ROOM self.now) }
     {
-        match (self.head, key) {
-            (Some(head), Some(key)) => {
-                head.key.name.same(&key.name) && head.key.kind == key.kind
-            }
-            (None, None) => true,
-            _ => false,
-        }
+        self.head.map(|head| head.key) == key
     }
 
     /// The bytes of its entry.

@@ -5,12 +5,12 @@ use word::Word;
 
 /// The text whose name is one letter.
 fn text(letter: u8) -> Result<Key, Fail> {
-    match Word::parse(&[letter]) {
-        Some(name) => Ok(Key {
+    match Word::try_from(&[letter][..]) {
+        Ok(name) => Ok(Key {
             name,
             kind: Kind::Text,
         }),
-        None => Err(Fail::new("no word")),
+        Err(_) => Err(Fail::new("no word")),
     }
 }
 
