@@ -1,17 +1,18 @@
 -- What rows say of each entry, and after each change of them.
-use Rattle.std.proofs.Common.{◌≡◌, ℕ, zero, suc, ◌+◌, ◌<◌, ◌≤◌, min, Bool, true, false, cond, ◌&&◌, ltb, ◌⊎◌, List, [], ◌∷◌, ◌++◌, map, length, get_or, take, set, is_some, MatchOption, Some, None, Option, subst, sym, refl, ap, ◌∙◌, inl, inr, arith}
+use Rattle.std.proofs.Common.{◌≡◌, ℕ, zero, suc, ◌+◌, ◌<◌, Bool, true, false, cond, ◌&&◌, ltb, ◌⊎◌, List, [], ◌∷◌, map, length, get_or, set, is_some, MatchOption, Some, None, Option, subst, sym, refl, ap, ◌∙◌, inl, inr, arith}
 use Rattle.std.specs.List.{position_from, find}
-use Rattle.std.specs.Option.{option_map}
+use Rattle.std.specs.Option.{option_map, option_or}
 use Rattle.std.proofs.lemmas.Slice.Eq.{bytes_eq-Decides}
-use Rattle.std.proofs.lemmas.List.{get_or-map, map-set, set-get_or, take_at}
+use Rattle.std.proofs.lemmas.Iterator.Adapters.{position_from-zero}
+use Rattle.std.proofs.lemmas.List.Quantifiers.{position-Some}
+use Rattle.std.proofs.lemmas.List.{get_or-map, map-set, set-get_or}
 use Rattle.std.proofs.lemmas.Bool.{and_parts, both_ways, false≢true, lt-ltb}
 use Rattle.word.specs.Words.{spelling}
 use Rattle.store.specs.declared.Kind.{Kind}
 use Rattle.store.specs.declared.Kind.TheVariants.{Text, Artefact}
 use Rattle.store.specs.declared.Key.{Key}
-use Rattle.store.specs.Maps.{same_kind, same_place, Writes, Keeps, Map, Taken}
-use Rattle.store.specs.Rows.{Line, said, saying, is_at, is_free, look, or_else, place_for, set_at, written, cleared, struck, emptied, over}
-use Rattle.store.proofs.Firsts.{FirstAt, first_at}
+use Rattle.store.specs.Maps.{same_kind, same_place, Writes, Map}
+use Rattle.store.specs.Rows.{Line, said, saying, is_at, is_free, look, place_for, set_at, written, cleared, struck, emptied, over}
 
 same_kind_path : (a b : Kind) → same_kind a b ≡ true → a ≡ b
 same_kind_path Text Text t = refl
@@ -35,54 +36,51 @@ module _ (n : List ℕ) (k : Kind) where
   at_same : (x : Line) (m : List ℕ) (j : Kind) → same_place n k m j ≡ true → is_at m j x ≡ is_at n k x
   at_same x m j t = let e = place_same n k m j t in cc
 
-  -- the rows that an entry may be written to
+  -- the row that an entry may be written to, and that no row before it has the entry
   abbrev Goes : List Line → ℕ → Type 0
-  Goes [] m = ⊥
-  Goes (x ∷ xs) zero = (is_at n k x ≡ true) ⊎ (x ≡ None)
-  Goes (x ∷ xs) (suc m) = (is_at n k x ≡ false) × Goes xs m
+  Goes xs i = (i < length xs) × ((is_at n k (get_or xs i None) ≡ true) ⊎ (get_or xs i None ≡ None)) × ((m : ℕ) → m < i → is_at n k (get_or xs m None) ≡ false)
 
-  goes_at : (xs : List Line) (m : ℕ) → FirstAt (is_at n k) xs m → Goes xs m
-  goes_at [] m h = h
-  goes_at (x ∷ xs) zero h = inl h
-  goes_at (x ∷ xs) (suc m) h = (h.0, goes_at xs m h.1)
+  none_at : (xs : List Line) (c : ℕ) → position_from (is_at n k) c xs ≡ None → (m : ℕ) → is_at n k (get_or xs m None) ≡ false
+  none_at [] c e m = refl
+  none_at (x ∷ xs) c e m = by (none_at xs (c + 1)) m (is_at n k x) refl
+    where
+      by : (position_from (is_at n k) (c + 1) xs ≡ None → (i : ℕ) → is_at n k (get_or xs i None) ≡ false) → (i : ℕ) (b : Bool) → is_at n k x ≡ b → is_at n k (get_or (x ∷ xs) i None) ≡ false
+      by more i true t = let z : Some c ≡ None = rw t at e in absurd (let y : ◌≡◌ {A = ℕ} 0 1 = cc in omega arith)
+      by more zero false t = t
+      by more (suc i) false t = more (rw t at e) i
 
   free_none : (x : Line) → is_free x ≡ true → x ≡ None
   free_none None t = refl
   free_none (Some s) t = absurd (false≢true t)
 
-  goes_free : (xs : List Line) (m c : ℕ) → None ≡ position_from (is_at n k) c xs → FirstAt is_free xs m → Goes xs m
-  goes_free [] m c e h = h
-  goes_free (x ∷ xs) zero c e h = inr (free_none x h)
-  goes_free (x ∷ xs) (suc m) c e h = by (λ z. goes_free xs m (c + 1) z h.1) (is_at n k x) refl
-    where
-      by : (None ≡ position_from (is_at n k) (c + 1) xs → Goes xs m) → (b : Bool) → is_at n k x ≡ b → Goes (x ∷ xs) (suc m)
-      by more true t = let z : None ≡ Some c = rw t at e in absurd (let y : ◌≡◌ {A = ℕ} 0 1 = cc in omega arith)
-      by more false t = let z : None ≡ position_from (is_at n k) (c + 1) xs = rw t at e in (t, more z)
-
   goes_place : (xs : List Line) (i : ℕ) → place_for xs n k ≡ Some i → Goes xs i
-  goes_place xs i e = by (position_from (is_at n k) 0 xs) refl (sym e)
+  goes_place xs i e = by (position_from (is_at n k) 0 xs) refl
     where
-      by : (o : Option ℕ) → o ≡ position_from (is_at n k) 0 xs → Some i ≡ or_else o (position_from is_free 0 xs) → Goes xs i
-      by (Some m) f g =
-          let h : m ≡ i = cc in
-          goes_at xs i (first_at (is_at n k) xs i (ap Some (sym h) ∙ f))
-      by None f g = goes_free xs i 0 f (first_at is_free xs i g)
+      by : (o : Option ℕ) → position_from (is_at n k) 0 xs ≡ o → Goes xs i
+      by (Some m) t =
+          let f : Some m ≡ Some i = rw t at e in
+          let h = position-Some (is_at n k) xs i None (position_from-zero (is_at n k) xs ∙ t ∙ f) in
+          (h.0, inl h.1, h.2)
+      by None t =
+          let f : position_from is_free 0 xs ≡ Some i = rw t at e in
+          let h = position-Some is_free xs i None (position_from-zero is_free xs ∙ f) in
+          (h.0, inr (free_none _ h.1), λ m l. none_at xs 0 t m)
 
   module _ (v : Option (List ℕ)) (m : List ℕ) (j : Kind) (base : Option (List ℕ)) where
     look_set : (xs : List Line) (i : ℕ) → Goes xs i → look (set xs i (Some (record { name = n; kind = k; value = v }))) m j base ≡ cond (same_place n k m j) v (look xs m j base)
-    look_set [] i h = absurd h
+    look_set [] i h = absurd (let z : ◌≡◌ {A = ℕ} 0 1 = omega (arith, h.0) in omega arith)
     look_set (x ∷ xs) zero h = by (same_place n k m j) refl
       where
         by : (b : Bool) → same_place n k m j ≡ b → cond (same_place n k m j) v (look xs m j base) ≡ cond (same_place n k m j) v (look (x ∷ xs) m j base)
         by true t = rw t
         by false t =
-            let o : is_at m j x ≡ false = elim h [ inl a ↦ at_other x m j a t | inr a ↦ ap (is_at m j) a ] in
+            let o : is_at m j x ≡ false = elim h.1 [ inl a ↦ at_other x m j a t | inr a ↦ ap (is_at m j) a ] in
             rw (t, o)
-    look_set (x ∷ xs) (suc i) h = by (look_set xs i h.1) (same_place n k m j) refl
+    look_set (x ∷ xs) (suc i) h = by (look_set xs i (omega (arith, h.0), h.1, λ l t. h.2 (suc l) (omega arith))) (same_place n k m j) refl
       where
         by : look (set xs i (Some (record { name = n; kind = k; value = v }))) m j base ≡ cond (same_place n k m j) v (look xs m j base) → (b : Bool) → same_place n k m j ≡ b → look (x ∷ set xs i (Some (record { name = n; kind = k; value = v }))) m j base ≡ cond (same_place n k m j) v (look (x ∷ xs) m j base)
         by more true t =
-            let o : is_at m j x ≡ false = at_same x m j t ∙ h.0 in
+            let o : is_at m j x ≡ false = at_same x m j t ∙ h.2 0 (omega arith) in
             let f : look (set xs i (Some (record { name = n; kind = k; value = v }))) m j base ≡ v = rw t at more in
             rw (o, t) f
         by more false t =
@@ -150,10 +148,6 @@ module _ {X : Type 0} (f : X → Line) (n : List ℕ) (k : Kind) where
 
 -- a row that was written, or left since the bytes do not fit
 module _ {X : Type 0} (f : X → Line) (xs : List X) (key : Key) (i : ℕ) (e : Some i ≡ place_for (map f xs) (spelling key.name) key.kind) where
-  pub write_test : (ok fits : Bool) → ok ≡ fits → ok ≡ (fits && is_some (place_for (map f xs) (spelling key.name) key.kind))
-  write_test ok true t = t ∙ ap is_some e
-  write_test ok false t = t
-
   pub write_after : (x y : X) (ok : Bool) (v : Option (List ℕ)) → i < length xs → f y ≡ cond ok (saying key v) (f (get_or xs i x)) → map f (set xs i y) ≡ cond ok (written (map f xs) key v) (map f xs)
   write_after x y true v l t = map-set f xs i y ∙ ap (set (map f xs) i) t ∙ ap (λ o. set_at (map f xs) o (saying key v)) e
   write_after x y false v l t = map-set f xs i y ∙ ap (set (map f xs) i) (t ∙ sym (get_or-map f xs i x (f x) l)) ∙ set-get_or (map f xs) i (f x)
@@ -173,9 +167,14 @@ module _ (rows : List Line) (key : Key) (below : Map) (v : Option (List ℕ)) wh
   write_writes after true fits t e m j = ap (λ rs. over rs below m j) e ∙ written_writes (and_parts _ _ (sym t)).1 m j
   write_writes after false fits t e m j = ap (λ rs. over rs below m j) e
 
-pub write_keeps : (takes : List Line → Taken) (rows changed after : List Line) (ok : Bool) → after ≡ cond ok changed rows → Keeps ok (takes rows) (takes after)
-write_keeps takes rows changed after true e = tt
-write_keeps takes rows changed after false e = λ m j c. ap (λ rs. takes rs m j c) e
+  -- a row that marks the entry as absent, or none where there is no room for it
+  pub hide_writes : (after : List Line) (ok : Bool) → ok ≡ is_some (place_for rows (spelling key.name) key.kind) → after ≡ written rows key v → Writes ok (over rows below) (over after below) (spelling key.name) key.kind v
+  hide_writes after true t e m j = write_writes after true true t e m j
+  hide_writes after false t e m j = by (place_for rows (spelling key.name) key.kind) refl
+    where
+      by : (o : Option ℕ) → place_for rows (spelling key.name) key.kind ≡ o → over after below m j ≡ over rows below m j
+      by None q = ap (λ rs. over rs below m j) (e ∙ ap (λ o. set_at rows o (saying key v)) q)
+      by (Some i) q = absurd (both_ways _ (sym t) (ap is_some q))
 
 -- rows over nothing, once none has the entry
 pub struck_writes : (rows after : List Line) (key : Key) (below : Map) → below (spelling key.name) key.kind ≡ None → after ≡ struck rows key → Writes true (over rows below) (over after below) (spelling key.name) key.kind None
@@ -207,11 +206,5 @@ free_emptied (r ∷ rows) = sym (lt-ltb 0 (length (r ∷ rows)) (omega arith))
 pub place_emptied : (rows after : List Line) → after ≡ emptied rows → (n : List ℕ) (k : Kind) → is_some (place_for after n k) ≡ ltb 0 (length rows)
 place_emptied rows after e n k =
     ap (λ rs. is_some (place_for rs n k)) e
-    ∙ ap (λ o. is_some (or_else o (position_from is_free 0 (emptied rows)))) (first_emptied rows n k 0)
+    ∙ ap (λ o. is_some (option_or o (position_from is_free 0 (emptied rows)))) (first_emptied rows n k 0)
     ∙ free_emptied rows
-
--- bytes that were copied to the front of an array, and are read again up to their length
-pub kept_front : (room : ℕ) (bytes front rest : List ℕ) → length bytes ≤ room → front ≡ bytes → take (min (length bytes) room) (front ++ rest) ≡ bytes
-kept_front room bytes front rest l e =
-    let m : min (length bytes) room ≡ length bytes = omega arith in
-    ap (λ k. take k (front ++ rest)) m ∙ take_at front rest (length bytes) (ap length e) ∙ e

@@ -1,12 +1,13 @@
 -- To remove nothing from drafts is always taken: the law that a store owes. Assumes nothing.
 use Rattle.std.specs.Prelude.{◌≡◌, ℕ, ◌+◌, Bool, true, false, not, ◌||◌, List, [], ◌∷◌, is_some, Some, None, Option, refl}
 use Rattle.std.specs.List.{position_from}
+use Rattle.std.specs.Option.{option_or}
 use Rattle.std.proofs.Common.{arith}
 use Rattle.std.proofs.lemmas.Bool.{both_ways}
 use Rattle.store.specs.declared.Change.TheVariants.{Remove}
 use Rattle.store.specs.declared.Kind.{Kind}
 use Rattle.store.specs.Maps.{Map}
-use Rattle.store.specs.Rows.{Line, is_at, look, or_else, place_for, over}
+use Rattle.store.specs.Rows.{Line, is_at, look, place_for, over}
 use Rattle.store.specs.Drafted.{taken_over}
 
 module _ (n : List ℕ) (k : Kind) where
@@ -19,13 +20,13 @@ module _ (n : List ℕ) (k : Kind) where
       by more true t = rw t
       by more false t = rw t (more (rw t at e))
 
-  or_else_some : (o p : Option ℕ) → is_some o ≡ true → is_some (or_else o p) ≡ true
-  or_else_some (Some i) p t = refl
-  or_else_some None p t = absurd (both_ways false refl t)
+  option_or_some : (o p : Option ℕ) → is_some o ≡ true → is_some (option_or o p) ≡ true
+  option_or_some (Some i) p t = refl
+  option_or_some None p t = absurd (both_ways false refl t)
 
   pub drafts_clear : (below : Map) (rows : List Line) → over rows below n k ≡ None → taken_over below rows n k Remove ≡ true
   drafts_clear below rows e = by (below n k) refl
     where
       by : (o : Option (List ℕ)) → below n k ≡ o → (not (is_some (below n k)) || is_some (place_for rows n k)) ≡ true
       by None q = rw q
-      by (Some x) q = rw q (or_else_some (position_from (is_at n k) 0 rows) _ (has_row rows 0 x (rw q at e)))
+      by (Some x) q = rw q (option_or_some (position_from (is_at n k) 0 rows) _ (has_row rows 0 x (rw q at e)))

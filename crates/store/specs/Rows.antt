@@ -1,7 +1,7 @@
 -- Tables of rows: what each row says, and the map that a table lays over another. Assumes nothing.
 use Rattle.std.specs.Prelude.{ℕ, min, Bool, true, false, cond, List, [], ◌∷◌, map, take, Some, None, Option, slice_set}
 use Rattle.std.specs.List.{position_from}
-use Rattle.std.specs.Option.{option_map}
+use Rattle.std.specs.Option.{option_map, option_or}
 use Rattle.word.specs.Words.{spelling}
 use Rattle.store.specs.declared.Kind.{Kind}
 use Rattle.store.specs.declared.Key.{Key}
@@ -63,12 +63,8 @@ abbrev pub nothing : Map
 nothing n k = None
 
 -- where an entry goes: to its own row, or to the first free one
-abbrev pub or_else : Option ℕ → Option ℕ → Option ℕ
-or_else (Some i) o = Some i
-or_else None o = o
-
 abbrev pub place_for : List Line → List ℕ → Kind → Option ℕ
-place_for rs n k = or_else (position_from (is_at n k) 0 rs) (position_from is_free 0 rs)
+place_for rs n k = option_or (position_from (is_at n k) 0 rs) (position_from is_free 0 rs)
 
 abbrev pub set_at : List Line → Option ℕ → Line → List Line
 set_at rs None r = rs
