@@ -1,6 +1,6 @@
 -- Whole artefacts: their tables, what tells them apart, and how long they are.
 use Rattle.std.proofs.Common.{◌≡◌, ℕ, zero, suc, ◌+◌, ◌≤◌, Bool, true, false, not, ◌&&◌, eqb, List, [], ◌∷◌, ◌++◌, map, length, Some, None, vec_items, codes, IsUtf8, decimal, sym, refl, ap, ◌∙◌, subst, arith}
-use Rattle.std.specs.List.{flat_map, AllByRecursion}
+use Rattle.std.specs.List.{flat_map, AllByRecursion, list_all}
 use Rattle.std.proofs.lemmas.Fmt.{decimal_digit}
 use Rattle.std.proofs.ByRecursion.{All-map, All-weaker}
 use Rattle.std.proofs.lemmas.Str.{IsUtf8-from_ascii}
@@ -13,7 +13,7 @@ use Rattle.modules.specs.declared.module.Definition.{Definition}
 use Rattle.modules.specs.declared.module.Require.{Require}
 use Rattle.modules.specs.declared.module.Module.{Module}
 use Rattle.modules.specs.Says.{meant, require_of, Says, EachDefines}
-use Rattle.modules.specs.Limits.{every, row_within, require_within, definition_within, WithinLimits}
+use Rattle.modules.specs.Limits.{row_within, require_within, definition_within, WithinLimits}
 use Rattle.modules.specs.Whole.{Heading, HeadingWithin, EachHeads, heading, PartsWithin, whole}
 use Rattle.modules.proofs.Forests.{length-flat}
 use Rattle.modules.proofs.Sayings.{each_from, rows_from, lies, whole_says, says_whole, same_definitions}
@@ -84,18 +84,18 @@ pub wrote : (m : Module) (bytes : List ℕ) → bytes ≡ written m → Wrote m 
 wrote m bytes e = record { as_is = e; as_ruled = λ p says. e ∙ written_ruled m p says }
 
 -- the parts of a module of the rules keep their limits
-pub all_every : {X : Type 0} (f : X → Bool) (xs : List X) → every f xs ≡ true → AllByRecursion (λ x. f x ≡ true) xs
+pub all_every : {X : Type 0} (f : X → Bool) (xs : List X) → list_all f xs ≡ true → AllByRecursion (λ x. f x ≡ true) xs
 all_every f [] t = tt
-all_every f (x ∷ xs) t = let u = and_parts (f x) (every f xs) t in (u.0, all_every f xs u.1)
+all_every f (x ∷ xs) t = let u = and_parts (f x) (list_all f xs) t in (u.0, all_every f xs u.1)
 
-every_all : {X : Type 0} (f : X → Bool) (xs : List X) → AllByRecursion (λ x. f x ≡ true) xs → every f xs ≡ true
+every_all : {X : Type 0} (f : X → Bool) (xs : List X) → AllByRecursion (λ x. f x ≡ true) xs → list_all f xs ≡ true
 every_all f [] a = refl
-every_all f (x ∷ xs) a = ap (λ b. b && every f xs) a.0 ∙ every_all f xs a.1
+every_all f (x ∷ xs) a = ap (λ b. b && list_all f xs) a.0 ∙ every_all f xs a.1
 
-pub headings_within : (es : List PureDefinition) → every definition_within es ≡ true → length (rows_of es) ≤ 128 → AllByRecursion HeadingWithin (map heading es)
+pub headings_within : (es : List PureDefinition) → list_all definition_within es ≡ true → length (rows_of es) ≤ 128 → AllByRecursion HeadingWithin (map heading es)
 headings_within [] t l = tt
 headings_within (e ∷ es) t l =
-    let u = and_parts (definition_within e) (every definition_within es) t in
+    let u = and_parts (definition_within e) (list_all definition_within es) t in
     let n = length-append (flat e.body) (rows_of es) in
     let k = length-flat e.body in
     (record { kind = u.0; rows = omega arith }, headings_within es u.1 (omega arith))

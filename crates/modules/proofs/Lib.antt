@@ -1,4 +1,3 @@
 pub mod Forests
-mod Everys
 mod Wholes
 pub mod Sayings

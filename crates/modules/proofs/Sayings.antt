@@ -1,23 +1,23 @@
 -- When a module of the code says one of the rules, and which.
-use Rattle.std.proofs.Common.{◌≡◌, ℕ, zero, suc, ◌≤◌, Bool, true, false, not, ◌&&◌, eqb, leb, List, [], ◌∷◌, ◌++◌, map, length, take, drop, Some, None, vec_items, Option, sym, refl, ap, ◌∙◌, subst, arith}
+use Rattle.std.proofs.Common.{◌≡◌, ℕ, suc, ◌≤◌, Bool, true, not, ◌&&◌, eqb, leb, List, [], ◌∷◌, ◌++◌, map, length, take, drop, Some, None, vec_items, Option, sym, refl, ap, ◌∙◌, arith}
 use Rattle.std.specs.Option.{option_map}
-use Rattle.std.specs.List.{AllByRecursion}
+use Rattle.std.proofs.lemmas.List.Folds.{list_all-map}
+use Rattle.std.specs.List.{AllByRecursion, list_all}
 use Rattle.std.proofs.lemmas.List.{append-nil, append_cancel_left, length-map, length-take-le, length-append, take-append-drop, take_at, drop_at, nil_from_length}
 use Rattle.std.proofs.lemmas.Bool.{and_parts, and_from, leb-true, le-leb, eqb-true}
-use Rattle.rules.specs.Rows.{Expr, Exprs, empty, none, more, size, flat}
-use Rattle.rules.specs.Rows.{Row as PureRow, Kind as PureKind, Definition as PureDefinition, Require as PureRequire, Module as PureModule, variable_of, procedure_of, macro_of, action}
+use Rattle.rules.specs.Rows.{Expr, size, flat}
+use Rattle.rules.specs.Rows.{Row as PureRow, Kind as PureKind, Definition as PureDefinition, Module as PureModule}
 use Rattle.rules.specs.Artefact.{rows_of}
 use Rattle.rules.specs.Lookup.{title}
 use Rattle.word.specs.declared.Word.{Word}
 use Rattle.word.specs.Words.{spelling}
 use Rattle.modules.specs.declared.module.Kind.{Kind}
 use Rattle.modules.specs.declared.module.Definition.{Definition}
-use Rattle.modules.specs.declared.module.Require.{Require}
 use Rattle.modules.specs.declared.module.Module.{Module}
 use Rattle.modules.specs.Says.{meant, require_of, Kinds, Defines, EachDefines, Definitions, Says}
-use Rattle.modules.specs.Limits.{every, none_alike, same_require, same_definition, definition_within, row_within, WithinLimits}
+use Rattle.modules.specs.Limits.{none_alike, same_require, same_definition, definition_within, row_within, WithinLimits}
 use Rattle.modules.specs.Trees.{closes}
-use Rattle.modules.specs.Whole.{Heading, Heads, heading, EachHeads, HeadingWithin, PartsWithin, alike_require, alike_definition, trees, few, distinct, whole}
+use Rattle.modules.specs.Whole.{Heading, heading, EachHeads, HeadingWithin, PartsWithin, alike_require, alike_definition, trees, few, distinct, whole}
 use Rattle.modules.proofs.Forests.{closes_flat, tree_of, tree_rows, length-flat, forest, forest_flat, first_of}
 
 -- a module's definitions, and their rows apart
@@ -58,12 +58,12 @@ alike_same c d e f p q =
     let u = titled d.kind d.name f.kind q.kind in
     cc
 
-others_same : (c : Definition) (e : PureDefinition) (ds : List Definition) (es : List PureDefinition) → Defines c e → EachDefines ds es → every (λ d. not (alike_definition c d)) ds ≡ every (λ f. not (same_definition e f)) es
+others_same : (c : Definition) (e : PureDefinition) (ds : List Definition) (es : List PureDefinition) → Defines c e → EachDefines ds es → list_all (λ d. not (alike_definition c d)) ds ≡ list_all (λ f. not (same_definition e f)) es
 others_same c e [] [] p m = refl
 others_same c e [] (f ∷ es) p m = absurd m
 others_same c e (d ∷ ds) [] p m = absurd m
 others_same c e (d ∷ ds) (f ∷ es) p m =
-    ap (λ b. not b && every (λ x. not (alike_definition c x)) ds) (alike_same c d e f p m.0) ∙ ap (λ b. not (same_definition e f) && b) (others_same c e ds es p m.1)
+    ap (λ b. not b && list_all (λ x. not (alike_definition c x)) ds) (alike_same c d e f p m.0) ∙ ap (λ b. not (same_definition e f) && b) (others_same c e ds es p m.1)
 
 -- no two definitions are alike where none are in the rules
 definitions_differ : (ds : List Definition) (es : List PureDefinition) → EachDefines ds es → none_alike alike_definition ds ≡ none_alike same_definition es
@@ -71,16 +71,12 @@ definitions_differ [] [] m = refl
 definitions_differ [] (e ∷ es) m = absurd m
 definitions_differ (d ∷ ds) [] m = absurd m
 definitions_differ (d ∷ ds) (e ∷ es) m =
-    ap (λ b. b && none_alike alike_definition ds) (others_same d e ds es m.0 m.1) ∙ ap (λ b. every (λ f. not (same_definition e f)) es && b) (definitions_differ ds es m.1)
-
-every_map : {X Y : Type 0} (f : Y → Bool) (g : X → Y) (xs : List X) → every (λ x. f (g x)) xs ≡ every f (map g xs)
-every_map f g [] = refl
-every_map f g (x ∷ xs) = ap (λ b. f (g x) && b) (every_map f g xs)
+    ap (λ b. b && none_alike alike_definition ds) (others_same d e ds es m.0 m.1) ∙ ap (λ b. list_all (λ f. not (same_definition e f)) es && b) (definitions_differ ds es m.1)
 
 differ_map : {X Y : Type 0} (f : Y → Y → Bool) (g : X → Y) (xs : List X) → none_alike (λ x y. f (g x) (g y)) xs ≡ none_alike f (map g xs)
 differ_map f g [] = refl
 differ_map f g (x ∷ xs) =
-    ap (λ b. b && none_alike (λ x y. f (g x) (g y)) xs) (every_map (λ y. not (f (g x) y)) g xs) ∙ ap (λ b. every (λ y. not (f (g x) y)) (map g xs) && b) (differ_map f g xs)
+    ap (λ b. b && none_alike (λ x y. f (g x) (g y)) xs) (sym (list_all-map (λ y. not (f (g x) y)) g xs)) ∙ ap (λ b. list_all (λ y. not (f (g x) y)) (map g xs) && b) (differ_map f g xs)
 
 three_parts : (a b c : Bool) → (a && b && c) ≡ true → (a ≡ true) × (b ≡ true) × (c ≡ true)
 three_parts a b c t = let p = and_parts (a && b) c t in let q = and_parts a b p.0 in (q.0, q.1, p.1)
@@ -109,7 +105,7 @@ assembled (d ∷ ds) (h ∷ hs) rows m t =
       assembled ds hs (drop h.rows rows) m.1 (ap (λ n. trees ds (drop n rows)) (sym same) ∙ split.2),
     )
 
-all_within : (hs : List Heading) (rows : List PureRow) → AllByRecursion HeadingWithin hs → every definition_within (assemble hs rows) ≡ true
+all_within : (hs : List Heading) (rows : List PureRow) → AllByRecursion HeadingWithin hs → list_all definition_within (assemble hs rows) ≡ true
 all_within [] rows a = refl
 all_within (h ∷ hs) rows a = and_from _ _ a.0.kind (all_within hs (drop h.rows rows) a.1)
 
@@ -164,7 +160,7 @@ whole_says m within t =
         definitions = all_within hs rows within.definitions.2;
         definitions_differ = sym (definitions_differ ds es each) ∙ apart.1;
         few_rows = omega (arith, leb-true _ _ counts.2, length-map (vec_items m.rows) meant, ap length lie);
-        rows = ap (every row_within) (sym lie) ∙ within.rows;
+        rows = ap (list_all row_within) (sym lie) ∙ within.rows;
       },
     )
 

@@ -1,7 +1,8 @@
 -- Whether rows are trees, from front to back.
-use Rattle.std.proofs.Common.{◌≡◌, ℕ, zero, suc, ◌+◌, ◌-◌, ◌<◌, ◌≤◌, Bool, true, false, ◌&&◌, eqb, leb, List, [], ◌∷◌, map, length, get_or, take, drop, pos, None, sym, refl, ap, ◌∙◌, arith, rules}
-use Rattle.std.proofs.lemmas.List.{at_drop_more, at_drop_all, length-map, take-map, drop-map, take_rest}
-use Rattle.std.proofs.lemmas.Bool.{and_left, and_right, and_from, lt-leb, le-leb}
+use Rattle.std.proofs.Common.{◌≡◌, ℕ, zero, suc, ◌+◌, ◌-◌, ◌<◌, ◌≤◌, Bool, true, false, ◌&&◌, eqb, List, [], ◌∷◌, map, length, get_or, take, drop, pos, None, sym, refl, ap, ◌∙◌, arith, rules}
+use Rattle.std.proofs.lemmas.List.{at_drop_more, at_drop_all, length-map, take-map, drop-map}
+use Rattle.std.proofs.lemmas.Bool.{and_left, and_right, and_from, le-leb}
+use Rattle.std.specs.List.{IsSplitAt}
 use Rattle.rules.specs.Rows.{Row as PureRow}
 use Rattle.modules.specs.declared.module.Row.{Row}
 use Rattle.modules.specs.declared.module.Kind.{Kind}
@@ -47,38 +48,27 @@ module _ (rows : List Row) (i left : ℕ) (b : Bool) (h : closes left (map meant
 
 -- the first definition, with the rows that are left
 module _ (d : Definition) (ds : List Definition) (rows : List PureRow) (b : Bool) (h : trees (d ∷ ds) rows ≡ b) where
-  too_few : length rows < d.rows → false ≡ b
-  too_few l = sym (and_left _ _ (and_left _ _ (lt-leb d.rows (length rows) l))) ∙ h
-
   no_tree : closes 1 (take d.rows rows) ≡ false → false ≡ b
   no_tree e = sym (and_left _ _ (and_right _ _ e)) ∙ h
 
   one_tree : d.rows ≤ length rows → closes 1 (take d.rows rows) ≡ true → trees ds (drop d.rows rows) ≡ b
   one_tree l e = sym (ap (λ t. t && trees ds (drop d.rows rows)) (and_from _ _ (le-leb d.rows (length rows) l) e)) ∙ h
 
-module _ (ds : List Definition) (i : ℕ) (rest : List Row) (b : Bool) (h : trees (drop i ds) (map meant rest) ≡ b) where
+module _ (ds : List Definition) (i : ℕ) (rest : List Row) (b : Bool) (h : trees (drop i ds) (map meant rest) ≡ b) (l : i < length ds) where
   abbrev n : ℕ
   n = (get_or ds i no_definition).rows
 
-  first : i < length ds → trees (get_or ds i no_definition ∷ drop (i + 1) ds) (map meant rest) ≡ b
-  first l = sym (at_drop_more (λ es. trees es (map meant rest)) ds i no_definition l) ∙ h
+  first : trees (get_or ds i no_definition ∷ drop (i + 1) ds) (map meant rest) ≡ b
+  first = sym (at_drop_more (λ es. trees es (map meant rest)) ds i no_definition l) ∙ h
 
-  -- the rows of the first definition, as the checker has them
-  front : (t : Bool) → t ≡ closes 1 (map meant (take (n - 0) (drop 0 rest))) → closes 1 (take n (map meant rest)) ≡ t
-  front t e = ap (closes 1) (take-map meant n rest ∙ ap (λ k. map meant (take k rest)) (sym (minus_none n))) ∙ sym e
-    where
-      minus_none : (k : ℕ) → k - 0 ≡ k
-      minus_none k = omega arith
+  -- the rows in front are those of the first definition
+  module _ (body others : List Row) (cut : IsSplitAt rest n body others) (t : Bool) (e : t ≡ closes 1 (map meant body)) where
+    front : closes 1 (take n (map meant rest)) ≡ t
+    front = ap (closes 1) (take-map meant n rest ∙ ap (map meant) (sym cut.1)) ∙ sym e
 
-  pub trees_short : i < length ds → length rest < n → false ≡ b
-  trees_short l s = too_few (get_or ds i no_definition) (drop (i + 1) ds) (map meant rest) b (first l) (simp length-map s)
+    pub trees_broken : t ≡ false → false ≡ b
+    trees_broken f = no_tree (get_or ds i no_definition) (drop (i + 1) ds) (map meant rest) b first (front ∙ f)
 
-  pub trees_broken : i < length ds → false ≡ closes 1 (map meant (take (n - 0) (drop 0 rest))) → false ≡ b
-  trees_broken l e = no_tree (get_or ds i no_definition) (drop (i + 1) ds) (map meant rest) b (first l) (front false e)
-
-  pub trees_next : i < length ds → n ≤ length rest → true ≡ closes 1 (map meant (take (n - 0) (drop 0 rest))) → trees (drop (i + 1) ds) (map meant (take (length rest - n) (drop n rest))) ≡ b
-  trees_next l s e =
-      ap (λ rs. trees (drop (i + 1) ds) (map meant rs)) (take_rest rest n) ∙ ap (trees (drop (i + 1) ds)) (sym (drop-map meant n rest)) ∙ one_tree (get_or ds i no_definition) (drop (i + 1) ds) (map meant rest) b (first l) (simp length-map s) (front true e)
-
-  pub trees_end : length ds ≤ i → eqb (length rest) 0 ≡ b
-  trees_end l = ap (λ k. eqb k 0) (sym (length-map rest meant)) ∙ sym (at_drop_all (λ es. trees es (map meant rest)) ds i l) ∙ h
+    pub trees_next : t ≡ true → trees (drop (i + 1) ds) (map meant others) ≡ b
+    trees_next f =
+        ap (λ rs. trees (drop (i + 1) ds) (map meant rs)) cut.2 ∙ ap (trees (drop (i + 1) ds)) (sym (drop-map meant n rest)) ∙ one_tree (get_or ds i no_definition) (drop (i + 1) ds) (map meant rest) b first (simp length-map cut.0) (front ∙ f)

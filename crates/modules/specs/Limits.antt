@@ -1,6 +1,7 @@
 -- What a module must be to be written and read. Assumes nothing.
 use Rattle.std.specs.Prelude.{◌≡◌, ℕ, ◌≤◌, Bool, true, false, not, ◌&&◌, List, [], ◌∷◌, length, Some, None, Option, ◌==◌, nat_le}
 use Rattle.std.specs.Str.{bytes_eq}
+use Rattle.std.specs.List.{list_all}
 use Rattle.rules.specs.Words.{Spelling, Home, is_word, reserved, arity_of}
 use Rattle.rules.specs.Rows.{Row, number_row, empty_row, name_row, local_row, variable_row, set_row, if_row, let_row, do_row, call_row, prim_row}
 use Rattle.rules.specs.Rows.{Kind, variable_of, procedure_of, macro_of, action, Definition, Require, Module}
@@ -8,15 +9,10 @@ use Rattle.rules.specs.Evaluate.{in_range}
 use Rattle.rules.specs.Lookup.{title}
 use Rattle.rules.specs.Artefact.{rows_of}
 
-module _ {X : Type 0} where
-  abbrev pub every : (X → Bool) → List X → Bool
-  every f [] = true
-  every f (x ∷ xs) = f x && every f xs
-
-  -- no two are alike
-  abbrev pub none_alike : (X → X → Bool) → List X → Bool
-  none_alike alike [] = true
-  none_alike alike (x ∷ xs) = every (λ y. not (alike x y)) xs && none_alike alike xs
+-- no two are alike
+abbrev pub none_alike : {X : Type 0} → (X → X → Bool) → List X → Bool
+none_alike alike [] = true
+none_alike alike (x ∷ xs) = list_all (λ y. not (alike x y)) xs && none_alike alike xs
 
 -- a home: a word, and a base of 0 to 15
 abbrev pub home_within : Home → Bool
@@ -68,10 +64,10 @@ same_definition c d = c.level == d.level && same_title (title c.kind) (title d.k
 
 pub record WithinLimits (m : Module) : Type 0 where
   pub few_requires : length m.requires ≤ 8
-  pub requires : every require_within m.requires ≡ true
+  pub requires : list_all require_within m.requires ≡ true
   pub requires_differ : none_alike same_require m.requires ≡ true
   pub few_definitions : length m.definitions ≤ 32
-  pub definitions : every definition_within m.definitions ≡ true
+  pub definitions : list_all definition_within m.definitions ≡ true
   pub definitions_differ : none_alike same_definition m.definitions ≡ true
   pub few_rows : length (rows_of m.definitions) ≤ 128
-  pub rows : every row_within (rows_of m.definitions) ≡ true
+  pub rows : list_all row_within (rows_of m.definitions) ≡ true

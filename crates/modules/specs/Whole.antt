@@ -1,14 +1,14 @@
 -- When the parts of a module make up a module of the rules. Assumes nothing.
-use Rattle.std.specs.Prelude.{◌≡◌, ℕ, ◌≤◌, Bool, true, false, ◌&&◌, List, [], ◌∷◌, map, length, take, drop, vec_items, ◌==◌, nat_le}
+use Rattle.std.specs.Prelude.{◌≡◌, ℕ, ◌≤◌, Bool, true, ◌&&◌, List, [], ◌∷◌, map, length, take, drop, vec_items, ◌==◌, nat_le}
 use Rattle.std.specs.Option.{option_map}
-use Rattle.std.specs.List.{AllByRecursion}
+use Rattle.std.specs.List.{AllByRecursion, list_all}
 use Rattle.rules.specs.Rows.{Row as PureRow, Kind as PureKind, Definition as PureDefinition, size}
 use Rattle.word.specs.Words.{spelling}
 use Rattle.modules.specs.declared.module.Definition.{Definition}
 use Rattle.modules.specs.declared.module.Require.{Require}
 use Rattle.modules.specs.declared.module.Module.{Module}
 use Rattle.modules.specs.Says.{meant, require_of, Kinds}
-use Rattle.modules.specs.Limits.{every, none_alike, same_require, same_title, require_within, row_within, kind_within}
+use Rattle.modules.specs.Limits.{none_alike, same_require, same_title, require_within, row_within, kind_within}
 use Rattle.modules.specs.Trees.{closes}
 
 -- the first line of a definition: all of it but its rows, which are only counted
@@ -38,9 +38,9 @@ pub record HeadingWithin (h : Heading) : Type 0 where
 
 -- each part keeps its own limits
 pub record PartsWithin (m : Module) : Type 0 where
-  pub requires : every require_within (map require_of (vec_items m.required)) ≡ true
+  pub requires : list_all require_within (map require_of (vec_items m.required)) ≡ true
   pub definitions : (hs : List Heading) × EachHeads (vec_items m.definitions) hs × AllByRecursion HeadingWithin hs
-  pub rows : every row_within (map meant (vec_items m.rows)) ≡ true
+  pub rows : list_all row_within (map meant (vec_items m.rows)) ≡ true
 
 abbrev pub alike_require : Require → Require → Bool
 alike_require a b = same_require (require_of a) (require_of b)

@@ -1,7 +1,8 @@
 //! Whether the parts of a module make up a module.
 ghost use Rattle.std.specs.Prelude.{◌≡◌, ◌≤◌, Bool, not, map, length};
 ghost use Rattle.modules.specs.Says.{meant};
-ghost use Rattle.modules.specs.Limits.{every, none_alike};
+ghost use Rattle.std.specs.List.{list_all};
+ghost use Rattle.modules.specs.Limits.{none_alike};
 ghost use Rattle.modules.specs.Trees.{children, closes};
 ghost use Rattle.modules.specs.Whole.{alike_require, alike_definition, trees, few, distinct, whole};
 
@@ -19,7 +20,7 @@ impl Alike for Require {
     ghost alike = { alike_require };
 
     fn is_alike(&self, other: &Require) -> bool {
-        self.from.same(&other.from) && self.shift == other.shift
+        self == other
     }
 }
 
@@ -27,33 +28,27 @@ impl Alike for Definition {
     ghost alike = { alike_definition };
 
     fn is_alike(&self, other: &Definition) -> bool {
-        match (&self.name, &other.name) {
-            (Some(a), Some(b)) => self.level == other.level && a.same(b),
-            _ => false,
-        }
+        self.name.is_some() && self.name == other.name && self.level == other.level
     }
 }
 
 // Whether none of the others is like the item.
 fn differs<T: Alike>(item: &T, others: &[T]) -> bool
-    ensures { result ≡ every (λ y. not (T.Alike.alike item.now y)) others.now }
+    ensures { result ≡ list_all (λ y. not (T.Alike.alike item.now y)) others.now }
 {
-    for other in others {
-        if item.is_alike(other) {
-            return false;
-        }
-    }
-    true
+    others.iter().all(|other| !item.is_alike(other))
 }
 
 // Whether no two of the items are alike.
 fn all_differ<T: Alike>(items: &[T]) -> bool
     ensures { result ≡ none_alike T.Alike.alike items.now }
 {
-    for (i, item) in items.iter().enumerate() {
-        if !differs(item, &items[i + 1..]) {
+    let mut rest = items;
+    while let [item, others @ ..] = rest {
+        if !differs(item, others) {
             return false;
         }
+        rest = others;
     }
     true
 }
@@ -96,10 +91,13 @@ fn are_trees(definitions: &[Definition], rows: &[Row]) -> bool
 {
     let mut rest = rows;
     for definition in definitions {
-        if definition.rows > rest.len() || !is_tree(&rest[0..definition.rows]) {
+        let Some((body, others)) = rest.split_at_checked(definition.rows) else {
+            return false;
+        };
+        if !is_tree(body) {
             return false;
         }
-        rest = &rest[definition.rows..];
+        rest = others;
     }
     rest.is_empty()
 }
@@ -116,15 +114,13 @@ impl Module {
     fn is_distinct(&self) -> bool
         ensures { result ≡ distinct self.now }
     {
-        all_differ(self.required.as_slice()) && all_differ(self.definitions.as_slice())
+        all_differ(&self.required) && all_differ(&self.definitions)
     }
 
     /// Whether the parts make up a module: few enough, no two alike, and each definition's rows one tree.
     pub fn is_whole(&self) -> bool
         ensures { result ≡ whole self.now }
     {
-        self.is_few()
-            && self.is_distinct()
-            && are_trees(self.definitions.as_slice(), self.rows.as_slice())
+        self.is_few() && self.is_distinct() && are_trees(&self.definitions, &self.rows)
     }
 }

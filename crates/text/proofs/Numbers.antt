@@ -1,5 +1,5 @@
 -- Numbers: what the library's `parse` reads, in the words of the rules.
-use Rattle.std.proofs.Common.{◌≡◌, ℕ, ◌<◌, ◌≤◌, Bool, true, false, cond, ◌&&◌, eqb, ltb, leb, [], ◌∷◌, length, get_or, drop, ℤ, pos, neg_ℤ, Some, None, Ok, Err, IsUtf8, IsAscii, Option, Result, sym, refl, ap, ◌∙◌, ⊎_elim, arith, w32, rules}
+use Rattle.std.proofs.Common.{◌≡◌, ℕ, ◌<◌, ◌≤◌, Bool, true, false, cond, ◌&&◌, eqb, ltb, leb, [], ◌∷◌, length, get_or, drop, ℤ, pos, neg_ℤ, Some, None, Ok, Err, IsUtf8, IsAscii, MatchOption, MatchResult, IsSomeAnd, Bor, Option, Result, sym, refl, ap, ◌∙◌, subst, ⊎_elim, arith, w32, rules}
 use Rattle.std.specs.Result.{OkIff, result_ok}
 use Rattle.std.specs.Str.Parse.{ParsesSigned}
 use Rattle.std.proofs.lemmas.Str.Parse.{IsNumeralModel, numerals_by_fold, parse_signed_minus, parse_signed_plain}
@@ -7,9 +7,10 @@ use Rattle.std.proofs.lemmas.Bool.{false≢true, and_parts, and_from, and_left, 
 use Rattle.std.proofs.lemmas.Str.Ascii.{IsAscii-nil, IsAscii-cons}
 use Rattle.std.proofs.lemmas.Str.{IsUtf8-nil, IsUtf8-from_ascii}
 use Rattle.std.proofs.lemmas.Bool.Decides.{nat_tests}
-use Rattle.rules.specs.Words.{Spelling, Home, digit, is_word, word}
+use Rattle.rules.specs.Words.{Spelling, Home, digit, is_word, word, number}
 use Rattle.rules.specs.Reading.{all_digits, value_from, with_sign, numeral, numbered, item_of}
-use Rattle.text.specs.Items.{digits_number, written_number}
+use Rattle.text.specs.declared.data.Value.{Value}
+use Rattle.text.specs.Items.{digits_number, written_number, ItemIs}
 
 own : IsNumeralModel (λ ds. all_digits ds ≡ true) (value_from 0)
 own = numerals_by_fold _ (search rules) value_from (search rules)
@@ -89,5 +90,20 @@ no_text_no_number (b ∷ bs) h = by (eqb b 45) (eqb-true b 45)
 pub word_item : (h : Home) (bs : Spelling) → is_word bs ≡ true → item_of h bs ≡ Some (word bs h)
 word_item h bs e = cond-true (is_word bs) _ _ e
 
-pub number_item : (h : Home) (bs : Spelling) (o : Option ℤ) → is_word bs ≡ false → o ≡ numeral bs → item_of h bs ≡ numbered o
+number_item : (h : Home) (bs : Spelling) (o : Option ℤ) → is_word bs ≡ false → o ≡ numeral bs → item_of h bs ≡ numbered o
 number_item h bs o e f = cond-false (is_word bs) _ _ e ∙ ap numbered (sym f)
+
+-- what of bytes that may be no text is text, and what is none
+pub text_is : {E : Type 0} (Q : E → Type 0) (bs : Spelling) (r : Result (Bor Spelling) E) (s : Bor Spelling) → MatchResult r (λ t. (t.now ≡ bs) × IsUtf8 bs) Q → Some s ≡ result_ok r → s.now ≡ bs
+text_is Q bs (Ok t) s m e = let k : s ≡ t = cc in ap (λ (x : Bor Spelling). x.now) k ∙ m.0
+text_is Q bs (Err f) s m e = cc
+
+pub text_is_not : {E : Type 0} (Q : E → Type 0) (bs : Spelling) (r : Result (Bor Spelling) E) → MatchResult r (λ t. (t.now ≡ bs) × IsUtf8 bs) (λ f. (IsUtf8 bs → ⊥) × Q f) → None ≡ result_ok r → IsUtf8 bs → ⊥
+text_is_not Q bs (Ok t) m e = cc
+text_is_not Q bs (Err f) m e = m.0
+
+-- the value of an item that is no word
+pub number_value : (h : Home) (bs : Spelling) (o : Option ℤ) (r : Option Value) → is_word bs ≡ false → o ≡ numeral bs → MatchOption o (r ≡ None) (λ z. IsSomeAnd r (λ v. v ≡ Value.Number z)) → ItemIs (item_of h bs) r
+number_value h bs None r e f m = subst (λ (k : Option Value). ItemIs (item_of h bs) k) (sym m) (number_item h bs None e f)
+number_value h bs (Some z) None e f m = absurd m
+number_value h bs (Some z) (Some v) e f m = (number z, number_item h bs (Some z) e f, λ cs. m)

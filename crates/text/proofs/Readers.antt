@@ -34,46 +34,46 @@ finished_item : (x : Reader) (at : ℕ) (p : Progress) → x.start ≤ at → at
 finished_item x at p s a = finish_pending (home_of x.tree.home) x.bytes.now x.start at p s a
 
 -- the item ended, and the mark was read
-pub stepped_mark : (x y : Reader) (t : Tree) (at : ℕ) (p q r : Progress) → x.start ≤ at → at < length x.bytes.now → item_byte (get_or x.bytes.now at 0) ≡ false → ended_item x at p ≡ reads q → t.home ≡ x.tree.home → mark (home_of t.home) (get_or x.bytes.now at 0) at q ≡ reads r → Built y.tree r → y.tree.home ≡ t.home → y.bytes ≡ x.bytes → y.start ≡ at + 1 → SteppedTo x y at p
-stepped_mark x y t at p q r s a i e home m b back input start = record {
+pub stepped_mark : (x y : Reader) (t : Tree) (at b : ℕ) (p q r : Progress) → x.start ≤ at → at < length x.bytes.now → item_byte b ≡ false → ended_item x at p ≡ reads q → t.home ≡ x.tree.home → mark (home_of t.home) b at q ≡ reads r → Built y.tree r → y.tree.home ≡ t.home → y.bytes ≡ x.bytes → y.start ≡ at + 1 → SteppedTo x y at b p
+stepped_mark x y t at b p q r s a i e home m built back input start = record {
   progress = r;
-  built = b;
+  built = built;
   home = back ∙ home;
   input = input;
   begun = omega arith;
   same = λ rest.
       let h = home_of x.tree.home in
       let f = finished_item x at p s (omega arith) ∙ e in
-      let g = ap (λ (k : Home). mark (home_of k) (get_or x.bytes.now at 0) at q) (sym home) ∙ m in
+      let g = ap (λ (k : Home). mark (home_of k) b at q) (sym home) ∙ m in
       let none : [] ≡ pending y.bytes.now y.start (at + 1) = sym (ap (λ k. pending y.bytes.now k (at + 1)) start ∙ pending_none y.bytes.now (at + 1)) in
-      mark_done h (get_or x.bytes.now at 0) rest at (pending x.bytes.now x.start at) p q r i f g
+      mark_done h b rest at (pending x.bytes.now x.start at) p q r i f g
       ∙ ap (λ pend. scan h rest (at + 1) pend r) none
       ∙ ap (λ (k : Home). scan (home_of k) rest (at + 1) (pending y.bytes.now y.start (at + 1)) r) (sym (back ∙ home));
 }
 
 -- the item goes on
-pub stepped_item : (x : Reader) (at : ℕ) (p : Progress) → x.start ≤ at → at < length x.bytes.now → item_byte (get_or x.bytes.now at 0) ≡ true → Built x.tree p → SteppedTo x x at p
-stepped_item x at p s a i b = record {
+pub stepped_item : (x : Reader) (at b : ℕ) (p : Progress) → x.start ≤ at → at < length x.bytes.now → b ≡ get_or x.bytes.now at 0 → item_byte b ≡ true → Built x.tree p → SteppedTo x x at b p
+stepped_item x at b p s a here i built = record {
   progress = p;
-  built = b;
+  built = built;
   home = refl;
   input = refl;
   begun = omega arith;
   same = λ rest.
       let h = home_of x.tree.home in
-      item_more h (get_or x.bytes.now at 0) rest at (pending x.bytes.now x.start at) p i
-      ∙ ap (λ pend. scan h rest (at + 1) pend p) (sym (pending_more x.bytes.now x.start at s a));
+      item_more h b rest at (pending x.bytes.now x.start at) p i
+      ∙ ap (λ pend. scan h rest (at + 1) pend p) (sym (pending_more x.bytes.now x.start at s a ∙ ap (λ k. k ∷ pending x.bytes.now x.start at) (sym here)));
 }
 
-pub stepped_bad_item : (x : Reader) (at : ℕ) (p : Progress) (f : ReadFault) → x.start ≤ at → at < length x.bytes.now → item_byte (get_or x.bytes.now at 0) ≡ false → RefusedAs (ended_item x at p) x.tree.home.«module» f → (rest : List ℕ) → RefusedAs (from x at (get_or x.bytes.now at 0 ∷ rest) p) x.tree.home.«module» f
-stepped_bad_item x at p f s a i r rest =
-    refused_through (ended_item x at p) _ x.tree.home.«module» (λ c k e. item_refused (home_of x.tree.home) (get_or x.bytes.now at 0) rest at (pending x.bytes.now x.start at) p c k i (finished_item x at p s (omega arith) ∙ e)) f r
+pub stepped_bad_item : (x : Reader) (at b : ℕ) (p : Progress) (f : ReadFault) → x.start ≤ at → at < length x.bytes.now → item_byte b ≡ false → RefusedAs (ended_item x at p) x.tree.home.«module» f → (rest : List ℕ) → RefusedAs (from x at (b ∷ rest) p) x.tree.home.«module» f
+stepped_bad_item x at b p f s a i r rest =
+    refused_through (ended_item x at p) _ x.tree.home.«module» (λ c k e. item_refused (home_of x.tree.home) b rest at (pending x.bytes.now x.start at) p c k i (finished_item x at p s (omega arith) ∙ e)) f r
 
-pub stepped_bad_mark : (x : Reader) (t : Tree) (at : ℕ) (p q : Progress) (f : ReadFault) → x.start ≤ at → at < length x.bytes.now → item_byte (get_or x.bytes.now at 0) ≡ false → ended_item x at p ≡ reads q → t.home ≡ x.tree.home → RefusedAs (mark (home_of t.home) (get_or x.bytes.now at 0) at q) t.home.«module» f → (rest : List ℕ) → RefusedAs (from x at (get_or x.bytes.now at 0 ∷ rest) p) x.tree.home.«module» f
-stepped_bad_mark x t at p q f s a i e home r rest =
-    let here : RefusedAs (mark (home_of x.tree.home) (get_or x.bytes.now at 0) at q) x.tree.home.«module» f =
-    subst (λ (k : Home). RefusedAs (mark (home_of k) (get_or x.bytes.now at 0) at q) k.«module» f) home r in
-    refused_through _ _ x.tree.home.«module» (λ c k m. mark_refused (home_of x.tree.home) (get_or x.bytes.now at 0) rest at (pending x.bytes.now x.start at) p q c k i (finished_item x at p s (omega arith) ∙ e) m) f here
+pub stepped_bad_mark : (x : Reader) (t : Tree) (at b : ℕ) (p q : Progress) (f : ReadFault) → x.start ≤ at → at < length x.bytes.now → item_byte b ≡ false → ended_item x at p ≡ reads q → t.home ≡ x.tree.home → RefusedAs (mark (home_of t.home) b at q) t.home.«module» f → (rest : List ℕ) → RefusedAs (from x at (b ∷ rest) p) x.tree.home.«module» f
+stepped_bad_mark x t at b p q f s a i e home r rest =
+    let here : RefusedAs (mark (home_of x.tree.home) b at q) x.tree.home.«module» f =
+    subst (λ (k : Home). RefusedAs (mark (home_of k) b at q) k.«module» f) home r in
+    refused_through _ _ x.tree.home.«module» (λ c k m. mark_refused (home_of x.tree.home) b rest at (pending x.bytes.now x.start at) p q c k i (finished_item x at p s (omega arith) ∙ e) m) f here
 
 -- the end of the text, after the item before it
 pub finished_text : (x : Reader) (t : Tree) (p q : Progress) (r : Result Text ReadFault) → x.start ≤ length x.bytes.now → ended_item x (length x.bytes.now) p ≡ reads q → t.home ≡ x.tree.home → Finished (ended (length x.bytes.now) q.forms q.opened) t.home.«module» r → Finished (from x (length x.bytes.now) [] p) x.tree.home.«module» r
@@ -109,23 +109,22 @@ reading_first x home bytes b h i s = record {
       ap (λ (k : Home). scan (home_of k) bytes 0 [] nothing_read) (sym h) ∙ ap (λ pend. scan (home_of x.tree.home) bytes 0 pend nothing_read) none;
 }
 
-left_to_read : (x : Reader) (bytes : List ℕ) (at : ℕ) (p : Progress) → x.bytes.now ≡ bytes → at < length bytes → from x at (drop at bytes) p ≡ from x at (get_or x.bytes.now at 0 ∷ drop (at + 1) bytes) p
-left_to_read x bytes at p i a =
-    ap (λ rest. from x at rest p) (drop_more bytes at 0 a ∙ ap (λ (bs : List ℕ). get_or bs at 0 ∷ drop (at + 1) bytes) (sym i))
+left_to_read : (x : Reader) (bytes : List ℕ) (at : ℕ) (p : Progress) → at < length bytes → from x at (drop at bytes) p ≡ from x at (get_or bytes at 0 ∷ drop (at + 1) bytes) p
+left_to_read x bytes at p a = ap (λ rest. from x at rest p) (drop_more bytes at 0 a)
 
-pub reading_more : (x y : Reader) (home : Home) (bytes : List ℕ) (at : ℕ) → at < length bytes → (r : Reading x home bytes at) → SteppedTo x y at r.progress → Reading y home bytes (at + 1)
+pub reading_more : (x y : Reader) (home : Home) (bytes : List ℕ) (at : ℕ) → at < length bytes → (r : Reading x home bytes at) → SteppedTo x y at (get_or bytes at 0) r.progress → Reading y home bytes (at + 1)
 reading_more x y home bytes at a r s = record {
   progress = s.progress;
   built = s.built;
   home_same = s.home ∙ r.home_same;
   input = ap (λ (k : Bor (List ℕ)). k.now) s.input ∙ r.input;
   begun = s.begun;
-  same = r.same ∙ left_to_read x bytes at r.progress r.input a ∙ s.same (drop (at + 1) bytes);
+  same = r.same ∙ left_to_read x bytes at r.progress a ∙ s.same (drop (at + 1) bytes);
 }
 
-pub reading_refused : (x : Reader) (home : Home) (bytes : List ℕ) (at : ℕ) (f : ReadFault) → at < length bytes → (r : Reading x home bytes at) → ((rest : List ℕ) → RefusedAs (from x at (get_or x.bytes.now at 0 ∷ rest) r.progress) x.tree.home.«module» f) → RefusedAs (read (home_of home) bytes) home.«module» f
+pub reading_refused : (x : Reader) (home : Home) (bytes : List ℕ) (at : ℕ) (f : ReadFault) → at < length bytes → (r : Reading x home bytes at) → ((rest : List ℕ) → RefusedAs (from x at (get_or bytes at 0 ∷ rest) r.progress) x.tree.home.«module» f) → RefusedAs (read (home_of home) bytes) home.«module» f
 reading_refused x home bytes at f a r s =
-    subst (λ (k : Home). RefusedAs (read (home_of home) bytes) k.«module» f) r.home_same (subst (λ (o : Read (List PureForm)). RefusedAs o x.tree.home.«module» f) (sym (r.same ∙ left_to_read x bytes at r.progress r.input a)) (s (drop (at + 1) bytes)))
+    subst (λ (k : Home). RefusedAs (read (home_of home) bytes) k.«module» f) r.home_same (subst (λ (o : Read (List PureForm)). RefusedAs o x.tree.home.«module» f) (sym (r.same ∙ left_to_read x bytes at r.progress a)) (s (drop (at + 1) bytes)))
 
 pub reading_all : (x : Reader) (home : Home) (bytes : List ℕ) (at : ℕ) (t : Result Text ReadFault) → length bytes ≡ at → (r : Reading x home bytes at) → Finished (from x (length x.bytes.now) [] r.progress) x.tree.home.«module» t → Finished (read (home_of home) bytes) home.«module» t
 reading_all x home bytes at t a r f =

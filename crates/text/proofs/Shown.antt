@@ -1,8 +1,8 @@
 -- What is written of a value is what is shown of its datum.
-use Rattle.std.proofs.Common.{◌≡◌, ℕ, ◌+◌, ◌<◌, ◌≤◌, false, cond, ◌⊎◌, List, [], ◌∷◌, ◌++◌, length, get_or, drop, ℤ, pos, is_ok, IfOk, Ok, Err, codes, Result, sym, refl, ap, ◌∙◌, subst, ⊎_elim, arith}
+use Rattle.std.proofs.Common.{◌≡◌, ℕ, ◌+◌, ◌<◌, ◌≤◌, cond, ◌⊎◌, List, [], ◌∷◌, ◌++◌, length, get_or, drop, ℤ, pos, is_ok, OnOk, Ok, Err, codes, Result, sym, refl, ap, ◌∙◌, subst, ⊎_elim, arith}
 use Rattle.std.specs.Fmt.{signed_decimal}
+use Rattle.std.specs.List.{flat_map}
 use Rattle.std.proofs.lemmas.List.{append-nil, append_assoc, drop_more, drop-drop, drop_all}
-use Rattle.std.proofs.lemmas.Bool.{true≢false}
 use Rattle.rules.specs.Words.{Datum, number, word, empty, pair}
 use Rattle.word.specs.declared.name.Name.{Name}
 use Rattle.text.specs.declared.data.Value.{Value}
@@ -13,38 +13,36 @@ use Rattle.text.specs.declared.tree.Form.{Form}
 use Rattle.text.specs.Data.{Means, Stands, no_cell}
 use Rattle.text.specs.Tree.{Forms}
 use Rattle.rules.specs.Reading.{Form as PureForm}
-use Rattle.text.specs.Show.{shown, shown_rest, is_pair, form_line, form_lines}
+use Rattle.text.specs.Show.{shown, shown_rest, form_line, Writes}
 
-pub number_shown : (cs : List Cell) (n : ℕ) (z : ℤ) (d : Datum) → Means cs n (Number z) d → signed_decimal z ≡ shown d
-number_shown cs n z (number y) m = let e : z ≡ y = cc in ap signed_decimal e
-number_shown cs n z (word w h) m = let e : ◌≡◌ {A = ℕ} 0 1 = cc m.1 in absurd (omega arith)
-number_shown cs n z empty m = let e : ◌≡◌ {A = ℕ} 0 1 = cc in absurd (omega arith)
-number_shown cs n z (pair a b) m = let e : ◌≡◌ {A = ℕ} 0 1 = cc m.1 in absurd (omega arith)
+-- a value that is a number, a word or the empty list, and its datum
+pub number_shown : (cs : List Cell) (n : ℕ) (v : Value) (z : ℤ) (d : Datum) → v ≡ Number z → Means cs n v d → signed_decimal z ≡ shown d
+number_shown cs n v z (number y) is m = let e : z ≡ y = cc in ap signed_decimal e
+number_shown cs n v z (word w h) is m = cc m.1
+number_shown cs n v z empty is m = cc
+number_shown cs n v z (pair a b) is m = cc m.1
 
-pub word_shown : (cs : List Cell) (n : ℕ) (u : Name) (d : Datum) → Means cs n (Word u) d → spelling u.word ≡ shown d
-word_shown cs n u (number y) m = let e : ◌≡◌ {A = ℕ} 0 1 = cc in absurd (omega arith)
-word_shown cs n u (word w h) m = let e : u ≡ m.0 = cc m.1 in ap (λ (k : Name). spelling k.word) e ∙ m.2
-word_shown cs n u empty m = let e : ◌≡◌ {A = ℕ} 0 1 = cc in absurd (omega arith)
-word_shown cs n u (pair a b) m = let e : ◌≡◌ {A = ℕ} 0 1 = cc m.1 in absurd (omega arith)
+pub word_shown : (cs : List Cell) (n : ℕ) (v : Value) (u : Name) (d : Datum) → v ≡ Word u → Means cs n v d → spelling u.word ≡ shown d
+word_shown cs n v u (number y) is m = cc
+word_shown cs n v u (word w h) is m = let e : u ≡ m.0 = cc m.1 in ap (λ (k : Name). spelling k.word) e ∙ m.2
+word_shown cs n v u empty is m = cc
+word_shown cs n v u (pair a b) is m = cc m.1
 
-empty_is : (cs : List Cell) (n : ℕ) (d : Datum) → Means cs n Empty d → d ≡ empty
-empty_is cs n (number y) m = let e : ◌≡◌ {A = ℕ} 0 1 = cc in absurd (omega arith)
-empty_is cs n (word w h) m = let e : ◌≡◌ {A = ℕ} 0 1 = cc m.1 in absurd (omega arith)
-empty_is cs n empty m = refl
-empty_is cs n (pair a b) m = let e : ◌≡◌ {A = ℕ} 0 1 = cc m.1 in absurd (omega arith)
+empty_is : (cs : List Cell) (n : ℕ) (v : Value) (d : Datum) → v ≡ Empty → Means cs n v d → d ≡ empty
+empty_is cs n v (number y) is m = cc
+empty_is cs n v (word w h) is m = cc m.1
+empty_is cs n v empty is m = refl
+empty_is cs n v (pair a b) is m = cc m.1
 
-pub empty_shown : (cs : List Cell) (n : ℕ) (d : Datum) → Means cs n Empty d → codes "()" ≡ shown d
-empty_shown cs n d m = ap shown (sym (empty_is cs n d m))
-
-pub empty_ended : (cs : List Cell) (n : ℕ) (d : Datum) → Means cs n Empty d → 41 ∷ [] ≡ shown_rest d
-empty_ended cs n d m = ap shown_rest (sym (empty_is cs n d m))
+pub empty_shown : (cs : List Cell) (n : ℕ) (v : Value) (d : Datum) → v ≡ Empty → Means cs n v d → codes "()" ≡ shown d
+empty_shown cs n v d is m = ap shown (sym (empty_is cs n v d is m))
 
 -- an end that is no empty list
-pub atom_ended : (cs : List Cell) (n : ℕ) (v : Value) (d : Datum) → is_pair v ≡ false → (v ≡ Empty → ⊥) → Means cs n v d → codes " . " ++ (shown d ++ (41 ∷ [])) ≡ shown_rest d
+atom_ended : (cs : List Cell) (n : ℕ) (v : Value) (d : Datum) → ((i : ℕ) → v ≡ Pair i → ⊥) → (v ≡ Empty → ⊥) → Means cs n v d → codes " . " ++ (shown d ++ (41 ∷ [])) ≡ shown_rest d
 atom_ended cs n v (number z) p e m = refl
 atom_ended cs n v (word w h) p e m = refl
 atom_ended cs n v empty p e m = absurd (e m)
-atom_ended cs n v (pair a b) p e m = absurd (true≢false (ap is_pair (sym m.1) ∙ p))
+atom_ended cs n v (pair a b) p e m = absurd (p m.0 m.1)
 
 -- what is written of a pair's halves
 pub record Halves (cs : List Cell) (n i : ℕ) (d : Datum) : Type 0 where
@@ -55,11 +53,11 @@ pub record Halves (cs : List Cell) (n i : ℕ) (d : Datum) : Type 0 where
   pub head : Means cs i (get_or cs i no_cell).head first
   pub tail : Means cs i (get_or cs i no_cell).tail rest
 
-pub halves : (cs : List Cell) (n i : ℕ) (d : Datum) → Means cs n (Pair i) d → Halves cs n i d
-halves cs n i (number y) m = let e : ◌≡◌ {A = ℕ} 0 1 = cc in absurd (omega arith)
-halves cs n i (word w h) m = let e : ◌≡◌ {A = ℕ} 0 1 = cc m.1 in absurd (omega arith)
-halves cs n i empty m = let e : ◌≡◌ {A = ℕ} 0 1 = cc in absurd (omega arith)
-halves cs n i (pair a b) m =
+pub halves : (cs : List Cell) (n i : ℕ) (v : Value) (d : Datum) → v ≡ Pair i → Means cs n v d → Halves cs n i d
+halves cs n i v (number y) is m = cc
+halves cs n i v (word w h) is m = cc m.1
+halves cs n i v empty is m = cc
+halves cs n i v (pair a b) is m =
     let e : m.0 ≡ i = cc m.1 in
     record {
       first = a;
@@ -71,13 +69,13 @@ halves cs n i (pair a b) m =
     }
 
 -- one after another
-pub written_pair : (b : ℕ) (o p q r x y : List ℕ) → p ≡ o ++ b ∷ [] → q ≡ p ++ x → r ≡ q ++ y → r ≡ o ++ b ∷ (x ++ y)
+written_pair : (b : ℕ) (o p q r x y : List ℕ) → p ≡ o ++ b ∷ [] → q ≡ p ++ x → r ≡ q ++ y → r ≡ o ++ b ∷ (x ++ y)
 written_pair b o p q r x y e f g = g ∙ ap (λ k. k ++ y) (f ∙ ap (λ k. k ++ x) e) ∙ simp append_assoc
 
--- what a call that adds to a list leaves, where it answers
-pub extended : {X Y : Type 0} (r : Result X Y) (s a b : List ℕ) (P : X → Type 0) → s ≡ cond (is_ok r) a b → ((x : X) → s ≡ a → P x) → IfOk r P
-extended (Ok x) s a b P e f = f x e
-extended (Err y) s a b P e f = tt
+-- what a call that adds to the bytes leaves, where it answers
+pub extended : {X Y : Type 0} (r : Result X Y) (cs : List Cell) (n : ℕ) (v : Value) (show : Datum → List ℕ) (o p w : List ℕ) → p ≡ cond (is_ok r) (o ++ w) o → ((d : Datum) → Means cs n v d → w ≡ show d) → OnOk r (Writes cs n v show o p)
+extended (Ok x) cs n v show o p w e f = λ d m l. e ∙ ap (λ k. o ++ k) (f d m)
+extended (Err y) cs n v show o p w e f = tt
 
 -- the elements of a list so far: what is left to write after `now` is what was after `first`
 pub record Resting (cs : List Cell) (n : ℕ) (v : Value) (first : List ℕ) (m : ℕ) (w : Value) (now : List ℕ) (d : Datum) : Type 0 where
@@ -86,39 +84,43 @@ pub record Resting (cs : List Cell) (n : ℕ) (v : Value) (first : List ℕ) (m 
   pub within : m ≤ length cs
   pub same : now ++ shown_rest left ≡ first ++ shown_rest d
 
-pub resting_more : (cs : List Cell) (n : ℕ) (v : Value) (first : List ℕ) (m i : ℕ) (now next last : List ℕ) (d : Datum) (w : Value) → w ≡ Pair i → next ≡ now ++ 32 ∷ [] → ((e : Datum) → Means cs i (get_or cs i no_cell).head e → i ≤ length cs → last ≡ next ++ shown e) → Resting cs n v first m w now d → Resting cs n v first i (get_or cs i no_cell).tail last d
-resting_more cs n v first m i now next last d w is e f r =
-    let h = halves cs m i r.left (subst (λ (x : Value). Means cs m x r.left) is r.means) in
+pub resting_more : (cs ds : List Cell) (n : ℕ) (v : Value) (first : List ℕ) (m i : ℕ) (now next last : List ℕ) (d : Datum) (w : Value) → ds ≡ cs → w ≡ Pair i → next ≡ now ++ 32 ∷ [] → Writes ds i (get_or ds i no_cell).head shown next last → Resting cs n v first m w now d → Resting cs n v first i (get_or ds i no_cell).tail last d
+resting_more cs ds n v first m i now next last d w k is e f r =
+    let h = halves cs m i w r.left is r.means in
+    let g : Writes cs i (get_or cs i no_cell).head shown next last = subst (λ (xs : List Cell). Writes xs i (get_or xs i no_cell).head shown next last) k f in
     record {
       left = h.rest;
-      means = h.tail;
+      means = rw k h.tail;
       within = omega (arith, h.below, r.within);
       same =
-          let whole : last ++ shown_rest h.rest ≡ now ++ shown_rest (pair h.first h.rest) = written_pair 32 now next last _ (shown h.first) (shown_rest h.rest) e (f h.first h.head (omega (arith, h.below, r.within))) refl in
+          let whole : last ++ shown_rest h.rest ≡ now ++ shown_rest (pair h.first h.rest) = written_pair 32 now next last _ (shown h.first) (shown_rest h.rest) e (g h.first h.head (omega (arith, h.below, r.within))) refl in
           whole ∙ ap (λ k. now ++ shown_rest k) (sym h.is) ∙ r.same;
     }
 
-pub ended_empty : (cs : List Cell) (n : ℕ) (v : Value) (d : Datum) (o p : List ℕ) → v ≡ Empty → p ≡ o ++ 41 ∷ [] → Means cs n v d → p ≡ o ++ shown_rest d
-ended_empty cs n v d o p e f m = f ∙ ap (λ k. o ++ k) (empty_ended cs n d (subst (λ (w : Value). Means cs n w d) e m))
+pub ended_empty : (cs : List Cell) (n m : ℕ) (v w : Value) (first now last : List ℕ) (d : Datum) → w ≡ Empty → last ≡ now ++ 41 ∷ [] → Resting cs n v first m w now d → last ≡ first ++ shown_rest d
+ended_empty cs n m v w first now last d is e r =
+    e ∙ ap (λ k. now ++ shown_rest k) (sym (empty_is cs m w r.left is r.means)) ∙ r.same
 
-pub ended_atom : (cs : List Cell) (n : ℕ) (v : Value) (d : Datum) (o p q r : List ℕ) → is_pair v ≡ false → (v ≡ Empty → ⊥) → p ≡ o ++ codes " . " → q ≡ p ++ shown d → r ≡ q ++ 41 ∷ [] → Means cs n v d → r ≡ o ++ shown_rest d
-ended_atom cs n v d o p q r a e f g h m =
-    h ∙ ap (λ k. k ++ 41 ∷ []) (g ∙ ap (λ k. k ++ shown d) f) ∙ regrouped ∙ ap (λ k. o ++ k) (atom_ended cs n v d a e m)
+pub ended_atom : (cs ds : List Cell) (n m : ℕ) (v w : Value) (first now p q last : List ℕ) (d : Datum) → ds ≡ cs → ((i : ℕ) → w ≡ Pair i → ⊥) → (w ≡ Empty → ⊥) → p ≡ now ++ codes " . " → Writes ds m w shown p q → last ≡ q ++ 41 ∷ [] → Resting cs n v first m w now d → last ≡ first ++ shown_rest d
+ended_atom cs ds n m v w first now p q last d k a b e f g r =
+    let h : q ≡ p ++ shown r.left = subst (λ (xs : List Cell). Writes xs m w shown p q) k f r.left r.means r.within in
+    g ∙ ap (λ k. k ++ 41 ∷ []) (h ∙ ap (λ k. k ++ shown r.left) e) ∙ regrouped ∙ ap (λ k. now ++ k) (atom_ended cs m w r.left a b r.means) ∙ r.same
   where
-    regrouped : ((o ++ codes " . ") ++ shown d) ++ 41 ∷ [] ≡ o ++ (codes " . " ++ (shown d ++ (41 ∷ [])))
+    regrouped : ((now ++ codes " . ") ++ shown r.left) ++ 41 ∷ [] ≡ now ++ (codes " . " ++ (shown r.left ++ (41 ∷ [])))
     regrouped = simp append_assoc
 
-pub pair_written : (cs : List Cell) (n i : ℕ) (v : Value) (d : Datum) (o p q r : List ℕ) → v ≡ Pair i → p ≡ o ++ 40 ∷ [] → ((e : Datum) → Means cs i (get_or cs i no_cell).head e → i ≤ length cs → q ≡ p ++ shown e) → ((e : Datum) → Means cs i (get_or cs i no_cell).tail e → i ≤ length cs → r ≡ q ++ shown_rest e) → Means cs n v d → n ≤ length cs → r ≡ o ++ shown d
-pair_written cs n i v d o p q r is e f g m l =
-    let h = halves cs n i d (subst (λ (w : Value). Means cs n w d) is m) in
-    let k : i ≤ length cs = omega (arith, h.below) in
-    written_pair 40 o p q r (shown h.first) (shown_rest h.rest) e (f h.first h.head k) (g h.rest h.tail k) ∙ ap (λ x. o ++ shown x) (sym h.is)
+pub pair_written : (cs ds : List Cell) (n i : ℕ) (v : Value) (o p q r : List ℕ) → ds ≡ cs → v ≡ Pair i → p ≡ o ++ 40 ∷ [] → Writes cs i (get_or cs i no_cell).head shown p q → Writes ds i (get_or cs i no_cell).tail shown_rest q r → Writes cs n v shown o r
+pair_written cs ds n i v o p q r k is e f g d m l =
+    let h = halves cs n i v d is m in
+    let j : i ≤ length cs = omega (arith, h.below) in
+    let t : Writes cs i (get_or cs i no_cell).tail shown_rest q r = subst (λ (xs : List Cell). Writes xs i (get_or cs i no_cell).tail shown_rest q r) k g in
+    written_pair 40 o p q r (shown h.first) (shown_rest h.rest) e (f h.first h.head j) (t h.rest h.tail j) ∙ ap (λ x. o ++ shown x) (sym h.is)
 
 -- a pair past the cells stands for nothing
-pub pair_past : {P : Type 0} (cs : List Cell) (n i : ℕ) (v : Value) (d : Datum) → v ≡ Pair i → (n ≤ i) ⊎ ((i < n) × (length cs ≤ i)) → Means cs n v d → n ≤ length cs → P
+pub pair_past : {P : Type 0} (cs : List Cell) (n i : ℕ) (v : Value) (d : Datum) → v ≡ Pair i → (n ≤ i) ⊎ (length cs ≤ i) → Means cs n v d → n ≤ length cs → P
 pair_past cs n i v d is past m l =
-    let h = halves cs n i d (subst (λ (w : Value). Means cs n w d) is m) in
-    ⊎_elim (λ k. absurd (omega (arith, h.below))) (λ k. absurd (omega (arith, h.below, k.1))) past
+    let h = halves cs n i v d is m in
+    ⊎_elim (λ k. absurd (omega (arith, h.below))) (λ k. absurd (omega (arith, h.below, k))) past
 
 pub line_written : (w x : List ℕ) (o p q r t : List ℕ) → p ≡ o ++ w → q ≡ p ++ 32 ∷ [] → r ≡ q ++ x → t ≡ r ++ 10 ∷ [] → t ≡ o ++ (w ++ (32 ∷ (x ++ (10 ∷ []))))
 line_written w x o p q r t e f g h = h ∙ ap (λ k. k ++ 10 ∷ []) (g ∙ ap (λ k. k ++ x) (f ∙ ap (λ k. k ++ 32 ∷ []) e)) ∙ simp append_assoc
@@ -130,25 +132,25 @@ no_form = record { offset = 0; datum = Number (pos 0) }
 -- the lines so far, and those to come
 pub record Listing (cs : List Cell) (xs : List Form) (i : ℕ) (out : List ℕ) (fs : List PureForm) : Type 0 where
   pub rest : Forms cs (drop i xs) (drop i fs)
-  pub same : out ++ form_lines (drop i fs) ≡ form_lines fs
+  pub same : out ++ flat_map form_line (drop i fs) ≡ flat_map form_line fs
 
-pub listing_more : (cs : List Cell) (xs : List Form) (i : ℕ) (out next : List ℕ) (fs : List PureForm) → i < length xs → ((d : Datum) → Stands cs (get_or xs i no_form).datum d → next ≡ out ++ form_line (record { offset = (get_or xs i no_form).offset; datum = d })) → Listing cs xs i out fs → Listing cs xs (i + 1) next fs
-listing_more cs xs i out next fs l f k = by (drop i fs) refl (subst (λ (ys : List Form). Forms cs ys (drop i fs)) (drop_more xs i no_form l) k.rest) k.same
+pub listing_more : (cs ds : List Cell) (xs : List Form) (i : ℕ) (out next : List ℕ) (fs : List PureForm) → ds ≡ cs → i < length xs → ((d : Datum) → Stands ds (get_or xs i no_form).datum d → next ≡ out ++ form_line (record { offset = (get_or xs i no_form).offset; datum = d })) → Listing cs xs i out fs → Listing cs xs (i + 1) next fs
+listing_more cs ds xs i out next fs kept l f k = by (drop i fs) refl (subst (λ (ys : List Form). Forms cs ys (drop i fs)) (drop_more xs i no_form l) k.rest) k.same
   where
-    by : (gs : List PureForm) → drop i fs ≡ gs → Forms cs (get_or xs i no_form ∷ drop (i + 1) xs) gs → out ++ form_lines gs ≡ form_lines fs → Listing cs xs (i + 1) next fs
+    by : (gs : List PureForm) → drop i fs ≡ gs → Forms cs (get_or xs i no_form ∷ drop (i + 1) xs) gs → out ++ flat_map form_line gs ≡ flat_map form_line fs → Listing cs xs (i + 1) next fs
     by [] d m same = absurd m
     by (g ∷ gs) d m same =
         let left : drop (i + 1) fs ≡ gs = sym (drop-drop 1 i fs) ∙ ap (drop 1) d in
-        let line : next ≡ out ++ form_line g = f g.datum m.1 ∙ ap (λ n. out ++ form_line (record { offset = n; datum = g.datum })) m.0 in
+        let line : next ≡ out ++ form_line g = f g.datum (rw kept m.1) ∙ ap (λ n. out ++ form_line (record { offset = n; datum = g.datum })) m.0 in
         record {
           rest = subst (λ (ys : List PureForm). Forms cs (drop (i + 1) xs) ys) (sym left) m.2;
-          same = ap (λ ys. next ++ form_lines ys) left ∙ ap (λ k. k ++ form_lines gs) line ∙ append_assoc out (form_line g) (form_lines gs) ∙ same;
+          same = ap (λ ys. next ++ flat_map form_line ys) left ∙ ap (λ k. k ++ flat_map form_line gs) line ∙ append_assoc out (form_line g) (flat_map form_line gs) ∙ same;
         }
 
-pub listing_all : (cs : List Cell) (xs : List Form) (i : ℕ) (out : List ℕ) (fs : List PureForm) → length xs ≤ i → Listing cs xs i out fs → out ≡ form_lines fs
+pub listing_all : (cs : List Cell) (xs : List Form) (i : ℕ) (out : List ℕ) (fs : List PureForm) → length xs ≤ i → Listing cs xs i out fs → out ≡ flat_map form_line fs
 listing_all cs xs i out fs l k = by (drop i fs) (subst (λ (ys : List Form). Forms cs ys (drop i fs)) (drop_all i xs l) k.rest) k.same
   where
-    by : (gs : List PureForm) → Forms cs [] gs → out ++ form_lines gs ≡ form_lines fs → out ≡ form_lines fs
+    by : (gs : List PureForm) → Forms cs [] gs → out ++ flat_map form_line gs ≡ flat_map form_line fs → out ≡ flat_map form_line fs
     by [] m same = sym (append-nil out) ∙ same
     by (g ∷ gs) m same = absurd m
 

@@ -1,5 +1,5 @@
 -- The reader, byte by byte, against the rules. Assumes nothing.
-use Rattle.std.specs.Prelude.{◌≡◌, ℕ, ◌+◌, ◌≤◌, List, ◌∷◌, reverse, Ok, Err, Result, slice_index, slice_range}
+use Rattle.std.specs.Prelude.{◌≡◌, ℕ, ◌+◌, ◌≤◌, List, ◌∷◌, reverse, Ok, Err, Result, slice_range}
 use Rattle.rules.specs.Reading.{Read, Progress, scan}
 use Rattle.rules.specs.Reading.{Form as PureForm}
 use Rattle.text.specs.declared.refusal.ReadFault.{ReadFault}
@@ -15,15 +15,15 @@ pending bytes start at = reverse (slice_range bytes start at)
 abbrev pub from : Reader → ℕ → List ℕ → Progress → Read (List PureForm)
 from x at rest p = scan (home_of x.tree.home) rest at (pending x.bytes.now x.start at) p
 
--- y is x after the byte at `at`
-pub record SteppedTo (x y : Reader) (at : ℕ) (p : Progress) : Type 0 where
+-- y is x after the byte b at `at`
+pub record SteppedTo (x y : Reader) (at b : ℕ) (p : Progress) : Type 0 where
   pub progress : Progress
   pub built : Built y.tree progress
   pub home : y.tree.home ≡ x.tree.home
   pub input : y.bytes ≡ x.bytes
   pub begun : y.start ≤ at + 1
-  pub same : (rest : List ℕ) → from x at (slice_index x.bytes.now at ∷ rest) p ≡ from y (at + 1) rest progress
+  pub same : (rest : List ℕ) → from x at (b ∷ rest) p ≡ from y (at + 1) rest progress
 
-abbrev pub Stepped : Reader → Reader → ℕ → Progress → Result (Unit {0}) ReadFault → Type 0
-Stepped x y at p (Ok _) = SteppedTo x y at p
-Stepped x y at p (Err f) = (rest : List ℕ) → RefusedAs (from x at (slice_index x.bytes.now at ∷ rest) p) x.tree.home.«module» f
+abbrev pub Stepped : Reader → Reader → ℕ → ℕ → Progress → Result (Unit {0}) ReadFault → Type 0
+Stepped x y at b p (Ok _) = SteppedTo x y at b p
+Stepped x y at b p (Err f) = (rest : List ℕ) → RefusedAs (from x at (b ∷ rest) p) x.tree.home.«module» f

@@ -1,9 +1,11 @@
 -- How data and forms are shown. Assumes nothing.
-use Rattle.std.specs.Prelude.{ℕ, Bool, true, false, List, [], ◌∷◌, ◌++◌, codes, decimal}
+use Rattle.std.specs.Prelude.{◌≡◌, ℕ, ◌≤◌, List, [], ◌∷◌, ◌++◌, length, codes, decimal}
 use Rattle.std.specs.Fmt.{signed_decimal}
 use Rattle.rules.specs.Words.{Datum, number, word, empty, pair}
 use Rattle.rules.specs.Reading.{Form}
 use Rattle.text.specs.declared.data.Value.{Value}
+use Rattle.text.specs.declared.data.Cell.{Cell}
+use Rattle.text.specs.Data.{Means}
 
 -- a list in brackets, with single spaces; what ends in no empty list has a point before its end
 abbrev mutual
@@ -23,12 +25,6 @@ abbrev mutual
 abbrev pub form_line : Form → List ℕ
 form_line f = decimal f.offset ++ (32 ∷ (shown f.datum ++ (10 ∷ [])))
 
-abbrev pub form_lines : List Form → List ℕ
-form_lines [] = []
-form_lines (f ∷ fs) = form_line f ++ form_lines fs
-
-abbrev pub is_pair : Value → Bool
-is_pair (Value.Number z) = false
-is_pair (Value.Word m) = false
-is_pair Value.Empty = false
-is_pair (Value.Pair i) = true
+-- what is added to the bytes is what is shown of a datum for which a value stands over the first n cells
+abbrev pub Writes : List Cell → ℕ → Value → (Datum → List ℕ) → List ℕ → List ℕ → Type 0
+Writes cs n v show before after = (d : Datum) → Means cs n v d → n ≤ length cs → after ≡ before ++ show d

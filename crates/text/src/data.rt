@@ -7,7 +7,7 @@ use std::alloc::AllocError;
 use word::{Home, Name, Word};
 
 /// A number, a word with its home, the empty list, or the pair in a cell.
-#[derive(Clone, Copy)]
+#[derive(Clone, Copy, PartialEq, Eq, Debug)]
 pub enum Value {
     Number(i32),
     Word(Name),
@@ -16,7 +16,7 @@ pub enum Value {
 }
 
 /// A pair. What it holds stands in earlier cells.
-#[derive(Clone, Copy)]
+#[derive(Clone, Copy, PartialEq, Eq, Debug)]
 pub struct Cell {
     pub head: Value,
     pub tail: Value,

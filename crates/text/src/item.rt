@@ -11,10 +11,7 @@ use word::{Home, Name, Word};
 fn parse_digits(bytes: &[u8]) -> Option<i32>
     ensures { (slice_index bytes.now 0 ≢ 43) → result ≡ written_number bytes.now }
 {
-    match std::str::from_utf8(bytes) {
-        Ok(text) => text.parse::<i32>().ok(),
-        Err(_) => None,
-    }
+    std::str::from_utf8(bytes).ok()?.parse::<i32>().ok()
 }
 
 /// The number that is written so: 0, or an optional `-` and digits that do not start with 0, if it has 32 bits.
@@ -33,11 +30,8 @@ pub fn parse_number(bytes: &[u8]) -> Option<i32>
 pub fn item_value(bytes: &[u8], home: Home) -> Option<Value>
     ensures { ItemIs (item_of (home_of home) bytes.now) result }
 {
-    if let Some(word) = Word::parse(bytes) {
-        return Some(Value::Word(Name { word, home }));
-    }
-    match parse_number(bytes) {
-        Some(n) => Some(Value::Number(n)),
-        None => None,
+    match Word::try_from(bytes) {
+        Ok(word) => Some(Value::Word(Name { word, home })),
+        Err(_) => parse_number(bytes).map(Value::Number),
     }
 }

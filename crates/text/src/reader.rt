@@ -1,5 +1,5 @@
 //! The reader: a text, byte by byte.
-ghost use Rattle.std.specs.Prelude.{◌≡◌, ◌<◌, ◌≤◌, [], length, if◌then◌else◌, nat_eq};
+ghost use Rattle.std.specs.Prelude.{◌≡◌, ◌<◌, ◌≤◌, [], length, if◌then◌else◌, nat_eq, slice_index};
 ghost use Rattle.rules.specs.Words.{text_home};
 ghost use Rattle.rules.specs.Reading.{Progress, reads, mark, placed, item_of, read};
 ghost use Rattle.word.specs.Words.{spelling, home_of};
@@ -50,11 +50,12 @@ struct Reader<'a> {
 
 impl Reader<'_> {
     // The byte at an offset, after those before it.
-    fn step(&mut self, at: usize) -> Result<(), ReadFault>
-        requires { (self.old.start ≤ at) × (at < length self.old.bytes.now) }
-        ensures { (p : Progress) → Built self.old.tree p → Stepped self.old self.new at p result }
+    fn step(&mut self, at: usize, b: u8) -> Result<(), ReadFault>
+        requires begun { self.old.start ≤ at }
+        requires within { at < length self.old.bytes.now }
+        requires byte { b ≡ slice_index self.old.bytes.now at }
+        ensures { (p : Progress) → Built self.old.tree p → Stepped self.old self.new at b p result }
     {
-        let b = self.bytes[at];
         if !is_item_byte(b) {
             end_item(&mut self.tree, &self.bytes[self.start..at], self.start)?;
             mark(&mut self.tree, b, at)?;
@@ -88,8 +89,8 @@ pub fn read(heap: Global, of: Word, bytes: &[u8]) -> Result<Text, ReadFault>
         start: 0,
         tree: Tree::new(heap, Home::of_text(of)),
     };
-    for at in 0..bytes.len() {
-        reader.step(at)?;
+    for (at, &b) in bytes.iter().enumerate() {
+        reader.step(at, b)?;
     }
     reader.finish()
 }

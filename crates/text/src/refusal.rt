@@ -11,7 +11,7 @@ use std::fmt;
 use word::Word;
 
 /// Why a call is refused. A part that does not apply is absent.
-#[derive(Clone, Copy)]
+#[derive(Clone, Copy, PartialEq, Eq, Debug)]
 pub struct Refusal {
     pub cause: Cause,
     /// The module for which rows ran.
@@ -54,10 +54,10 @@ impl fmt::Display for Refusal {
     fn fmt<W: fmt::Write>(&self, f: &mut fmt::Formatter<W>) -> fmt::Result {
         write!(f, "refused {}", self.cause.number())?;
         if let Some(word) = self.working_for {
-            write!(f, " for {}", word.as_str())?;
+            write!(f, " for {word}")?;
         }
         if let Some(word) = self.module {
-            write!(f, " module {}", word.as_str())?;
+            write!(f, " module {word}")?;
         }
         match (self.place, self.working_for) {
             (Some(row), Some(_)) => write!(f, " row {row}"),
@@ -68,12 +68,13 @@ impl fmt::Display for Refusal {
 }
 
 /// Why a text was not read: it is refused, or there was no memory.
-#[derive(Clone, Copy)]
+#[derive(Clone, Copy, PartialEq, Eq, Debug)]
 pub enum ReadFault {
     Refused(Refusal),
     Memory,
 }
 
+// By hand: clauses of `?` read what a conversion gives, which a derived one does not state.
 impl From<AllocError> for ReadFault {
     ghost from_gives = { λ _ r. r ≡ Memory };
 

@@ -1,8 +1,9 @@
 //! Data as people read them.
-ghost use Rattle.std.specs.Prelude.{◌≡◌, ℕ, ◌≤◌, false, List, ◌++◌, length, IfOk, OnOk};
+ghost use Rattle.std.specs.Prelude.{◌≡◌, List, ◌++◌, IfOk, OnOk};
+ghost use Rattle.std.specs.List.{flat_map};
 ghost use Rattle.rules.specs.Words.{Datum};
-ghost use Rattle.text.specs.Data.{Means, Stands};
-ghost use Rattle.text.specs.Show.{shown, shown_rest, is_pair, form_line, form_lines};
+ghost use Rattle.text.specs.Data.{Stands};
+ghost use Rattle.text.specs.Show.{shown, shown_rest, form_line, Writes};
 ghost use Rattle.text.specs.Tree.{Forms};
 ghost use Rattle.rules.specs.Reading.{Form as PureForm};
 
@@ -10,101 +11,90 @@ use crate::data::{Cell, Value};
 use crate::tree::{Form, Text};
 use std::alloc::{AllocError, Global};
 
-// A datum that is no pair, after what is written.
-fn put_atom(heap: Global, value: Value, out: &mut Vec<u8>) -> Result<(), AllocError>
-    ensures { OnOk result ((cs : List Cell) (n : ℕ) (d : Datum) → is_pair value ≡ false → Means cs n value d → out.new.items ≡ out.old.items ++ shown d) }
-{
-    match value {
-        Value::Number(n) => out.extend_from_slice(n.to_string(heap)?.as_bytes()),
-        Value::Word(name) => out.extend_from_slice(name.word.as_bytes()),
-        Value::Empty => out.extend_from_slice(b"()"),
-        Value::Pair(_) => Ok(()),
-    }
+// What is written of the data over some cells.
+#[derive(Drop)]
+struct Writer<'a> {
+    cells: &'a [Cell],
+    out: Vec<u8>,
 }
 
-// The end of a list whose last tail is no pair.
-fn put_end(heap: Global, value: Value, out: &mut Vec<u8>) -> Result<(), AllocError>
-    ensures { OnOk result ((cs : List Cell) (n : ℕ) (d : Datum) → is_pair value ≡ false → Means cs n value d → out.new.items ≡ out.old.items ++ shown_rest d) }
-{
-    if let Value::Empty = value {
-        out.push(b')')?;
-        return Ok(());
-    }
-    out.extend_from_slice(b" . ")?;
-    put_atom(heap, value, out)?;
-    out.push(b')')?;
-    Ok(())
-}
-
-// A datum over the first `below` cells, after what is written.
-#[cycle(put_datum_put_rest)]
-fn put_datum(
-    heap: Global,
-    cells: &[Cell],
-    below: usize,
-    value: Value,
-    out: &mut Vec<u8>,
-) -> Result<(), AllocError>
-    ensures { OnOk result ((d : Datum) → Means cells.now below value d → below ≤ length cells.now → out.new.items ≡ out.old.items ++ shown d) }
-{
-    let Value::Pair(i) = value else {
-        return put_atom(heap, value, out);
-    };
-    if i >= below || i >= cells.len() {
-        return Ok(());
-    }
-    out.push(b'(')?;
-    put_datum(heap, cells, i, cells[i].head, out)?;
-    put_rest(heap, cells, i, cells[i].tail, out)
-}
-
-// What follows in a list after its first element.
-#[cycle(put_datum_put_rest)]
-fn put_rest(
-    heap: Global,
-    cells: &[Cell],
-    below: usize,
-    value: Value,
-    out: &mut Vec<u8>,
-) -> Result<(), AllocError>
-    ensures { OnOk result ((d : Datum) → Means cells.now below value d → below ≤ length cells.now → out.new.items ≡ out.old.items ++ shown_rest d) }
-{
-    let mut below = below;
-    let mut value = value;
-    'elements: while let Value::Pair(i) = value {
-        if i >= below || i >= cells.len() {
+impl Writer<'_> {
+    // A datum over the first `below` cells.
+    #[cycle(put_datum_put_rest)]
+    fn put_datum(&mut self, below: usize, value: Value) -> Result<(), AllocError>
+        ensures kept { self.new.cells ≡ self.old.cells }
+        ensures written { OnOk result (Writes self.old.cells.now below value shown self.old.out.items self.new.out.items) }
+    {
+        let i = match value {
+            Value::Number(n) => {
+                let digits = n.to_string(*self.out.allocator())?;
+                return self.out.extend_from_slice(digits.as_bytes());
+            }
+            Value::Word(name) => return self.out.extend_from_slice(name.word.as_bytes()),
+            Value::Empty => return self.out.extend_from_slice(b"()"),
+            Value::Pair(i) => i,
+        };
+        if i >= below || i >= self.cells.len() {
             return Ok(());
         }
-        out.push(b' ')?;
-        put_datum(heap, cells, i, cells[i].head, out)?;
-        below = i;
-        value = cells[i].tail;
+        let Cell { head, tail } = self.cells[i];
+        self.out.push(b'(')?;
+        self.put_datum(i, head)?;
+        self.put_rest(i, tail)
     }
-    put_end(heap, value, out)
-}
 
-// A form's line: its offset, a space, its datum and a line feed.
-fn put_form(heap: Global, cells: &[Cell], form: Form, out: &mut Vec<u8>) -> Result<(), AllocError>
-    ensures { OnOk result ((d : Datum) → Stands cells.now form.datum d → out.new.items ≡ out.old.items ++ form_line (record { offset = form.offset; datum = d })) }
-{
-    out.extend_from_slice(form.offset.to_string(heap)?.as_bytes())?;
-    out.push(b' ')?;
-    put_datum(heap, cells, cells.len(), form.datum, out)?;
-    out.push(b'\n')?;
-    Ok(())
+    // What follows in a list after its first element.
+    #[cycle(put_datum_put_rest)]
+    fn put_rest(&mut self, mut below: usize, mut value: Value) -> Result<(), AllocError>
+        ensures kept { self.new.cells ≡ self.old.cells }
+        ensures written { OnOk result (Writes self.old.cells.now below value shown_rest self.old.out.items self.new.out.items) }
+    {
+        'elements: while let Value::Pair(i) = value {
+            if i >= below || i >= self.cells.len() {
+                return Ok(());
+            }
+            let Cell { head, tail } = self.cells[i];
+            self.out.push(b' ')?;
+            self.put_datum(i, head)?;
+            below = i;
+            value = tail;
+        }
+        if let Value::Empty = value {
+            self.out.push(b')')?;
+            return Ok(());
+        }
+        self.out.extend_from_slice(b" . ")?;
+        self.put_datum(below, value)?;
+        self.out.push(b')')?;
+        Ok(())
+    }
+
+    // A form's line: its offset, a space, its datum and a line feed.
+    fn put_form(&mut self, form: Form) -> Result<(), AllocError>
+        ensures kept { self.new.cells ≡ self.old.cells }
+        ensures written { OnOk result ((d : Datum) → Stands self.old.cells.now form.datum d → self.new.out.items ≡ self.old.out.items ++ form_line (record { offset = form.offset; datum = d })) }
+    {
+        let offset = form.offset.to_string(*self.out.allocator())?;
+        self.out.extend_from_slice(offset.as_bytes())?;
+        self.out.push(b' ')?;
+        self.put_datum(self.cells.len(), form.datum)?;
+        self.out.push(b'\n')?;
+        Ok(())
+    }
 }
 
 impl Text {
     /// The forms, a line each.
     pub fn listing(&self, heap: Global) -> Result<Vec<u8>, AllocError>
-        ensures { IfOk result (λ out. (fs : List PureForm) → Forms self.now.cells.items self.now.forms.items fs → out.items ≡ form_lines fs) }
+        ensures { IfOk result (λ out. (fs : List PureForm) → Forms self.now.cells.items self.now.forms.items fs → out.items ≡ flat_map form_line fs) }
     {
-        let cells = self.cells.as_slice();
-        let forms = self.forms.as_slice();
-        let mut out = Vec::new(heap);
-        for form in forms {
-            put_form(heap, cells, *form, &mut out)?;
+        let mut writer = Writer {
+            cells: &self.cells,
+            out: Vec::new(heap),
+        };
+        for form in &self.forms {
+            writer.put_form(*form)?;
         }
-        Ok(out)
+        Ok(writer.out)
     }
 }

@@ -29,7 +29,7 @@ impl Part {
 }
 
 /// A form of a text, and where it begins.
-#[derive(Clone, Copy)]
+#[derive(Clone, Copy, PartialEq, Eq, Debug)]
 pub struct Form {
     pub offset: usize,
     pub datum: Value,

@@ -1,6 +1,9 @@
-use Rattle.std.proofs.Common.{◌≡◌, drop}
+use Rattle.std.proofs.Common.{◌≡◌, length}
 use Rattle.modules.specs.Limits.{none_alike}
 use Rattle.modules.proofs.whole.all_differ.Given as goal
 
-abbrev pub invariant-loop-i : goal.invariant-loop-i
-invariant-loop-i g l = none_alike g.T.Alike.alike (drop l.i l.items) ≡ none_alike g.T.Alike.alike l.items
+abbrev pub invariant-loop-rest : goal.invariant-loop-rest
+invariant-loop-rest g l = none_alike g.T.Alike.alike l.rest ≡ none_alike g.T.Alike.alike l.items
+
+abbrev pub decreases-loop-rest : goal.decreases-loop-rest
+decreases-loop-rest g l = length l.rest
