@@ -4,7 +4,6 @@ use Rattle.std.specs.Str.{bytes_eq}
 use Rattle.store.specs.declared.Kind.{Kind}
 use Rattle.store.specs.declared.Kind.TheVariants.{Text, Artefact}
 use Rattle.store.specs.declared.Change.{Change}
-use Rattle.store.specs.declared.Change.TheVariants.{Put, Remove}
 use Rattle.store.specs.declared.Miss.{Miss}
 use Rattle.store.specs.declared.Miss.TheVariants.{Absent, Short}
 
@@ -25,11 +24,6 @@ same_kind Artefact Artefact = true
 -- the kind of that name
 abbrev pub kind_named : List ℕ → Option Kind
 kind_named text = cond (bytes_eq text (codes "text")) (Some Text) (cond (bytes_eq text (codes "artefact")) (Some Artefact) None)
-
--- to that many bytes, or to nothing
-abbrev pub change_to : Option ℕ → Change
-change_to (Some len) = Put len
-change_to None = Remove
 
 -- one entry is the other
 abbrev pub same_place : List ℕ → Kind → List ℕ → Kind → Bool

@@ -8,7 +8,7 @@ ghost use Rattle.std.specs.Result.{result_ok};
 ghost use Rattle.word.specs.Words.{spelling};
 ghost use Rattle.store.specs.declared.Change.{Change};
 ghost use Rattle.store.specs.declared.Kind.{Kind};
-ghost use Rattle.store.specs.Maps.{kind_named, change_to, answered, fronted, Writes, Keeps};
+ghost use Rattle.store.specs.Maps.{kind_named, answered, fronted, Writes, Keeps};
 
 mod copy;
 mod drafts;
@@ -69,14 +69,6 @@ pub struct Key {
 pub enum Change {
     Put(usize),
     Remove,
-}
-
-impl From<Option<usize>> for Change {
-    ghost from_gives = { λ len c. c ≡ change_to len };
-
-    fn from(len: Option<usize>) -> Change {
-        len.map_or(Change::Remove, Change::Put)
-    }
 }
 
 /// Why a fetch wrote nothing.

@@ -24,6 +24,14 @@ fn byte_in<S: Store>(store: &S, key: Key) -> Option<u8> {
 }
 
 #[test]
+fn kinds_have_names(rt: HostRuntime) -> Result<(), Fail> {
+    assert_eq!(rt; "text".parse(), Ok(Kind::Text));
+    assert_eq!(rt; "artefact".parse(), Ok(Kind::Artefact));
+    assert_eq!(rt; "artefacts".parse::<Kind>(), Err(UnknownKind));
+    Ok(())
+}
+
+#[test]
 fn slots_fill_and_free(rt: HostRuntime) -> Result<(), Fail> {
     assert_eq!(rt; std::mem::size_of::<Slot>(), 8224);
     let mut memory = [Slot::new(); 2];
