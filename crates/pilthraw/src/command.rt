@@ -1,4 +1,7 @@
 //! The lines of the console, as commands.
+use crate::mistake::Mistake;
+use store::{Change, Key};
+use word::{NotAWord, Word};
 
 /// What a store is to be made of: slots, under so many drafts.
 #[derive(Clone, Copy)]
@@ -8,94 +11,91 @@ pub(crate) enum Plan {
     DraftsOverDrafts(usize),
 }
 
-/// A command. Names and kinds are as they stand in the line: each is judged where it is used.
+/// A command. One that is followed by bytes has them read also where its name is wrong, so it keeps what is wrong with it.
 #[derive(Clone, Copy)]
-pub(crate) enum Command<'a> {
+pub(crate) enum Command {
     Read {
-        name: &'a str,
+        name: Result<Word, NotAWord>,
         count: usize,
     },
     Make(Plan),
     Put {
-        name: &'a str,
-        kind: &'a str,
+        key: Result<Key, Mistake>,
         count: usize,
     },
-    Erase {
-        name: &'a str,
-        kind: &'a str,
-    },
-    Length {
-        name: &'a str,
-        kind: &'a str,
-    },
+    Erase(Key),
+    Length(Key),
     Fetch {
-        name: &'a str,
-        kind: &'a str,
+        key: Key,
         buffer: usize,
     },
     Takes {
-        name: &'a str,
-        kind: &'a str,
-        count: Option<usize>,
+        key: Key,
+        change: Change,
     },
 }
 
-fn number(word: &str) -> Result<usize, &'static str> {
-    match word.parse::<usize>() {
-        Ok(n) => Ok(n),
-        Err(_) => Err("a count is no number"),
-    }
+fn key(name: &str, kind: &str) -> Result<Key, Mistake> {
+    let kind = kind.parse()?;
+    let name = Word::try_from(name.as_bytes())?;
+    Ok(Key { name, kind })
 }
 
-// How many bytes a change is to; `none` is a removal.
-fn change(word: &str) -> Result<Option<usize>, &'static str> {
+// To how many bytes a change is; `none` is a removal.
+fn change(word: &str) -> Result<Change, Mistake> {
     match word {
-        "none" => Ok(None),
-        _ => Ok(Some(number(word)?)),
+        "none" => Ok(Change::Remove),
+        count => Ok(Change::Put(count.parse()?)),
     }
 }
 
-fn store_plan(words: &str) -> Result<Plan, &'static str> {
-    match words.rsplit_once(' ') {
-        Some(("slots", places)) => Ok(Plan::Slots(number(places)?)),
-        Some(("drafts slots", places)) => Ok(Plan::Drafts(number(places)?)),
-        Some(("drafts drafts slots", places)) => Ok(Plan::DraftsOverDrafts(number(places)?)),
-        _ => Err("store takes slots, drafts slots or drafts drafts slots, and a number of places"),
+impl TryFrom<&str> for Plan {
+    type Error = Mistake;
+
+    fn try_from(words: &str) -> Result<Plan, Mistake> {
+        match words.rsplit_once(' ') {
+            Some(("slots", places)) => Ok(Plan::Slots(places.parse()?)),
+            Some(("drafts slots", places)) => Ok(Plan::Drafts(places.parse()?)),
+            Some(("drafts drafts slots", places)) => Ok(Plan::DraftsOverDrafts(places.parse()?)),
+            _ => Err(Mistake::NoStore),
+        }
     }
 }
 
-impl<'a> Command<'a> {
-    /// The command of a line, or what is wrong with it.
-    pub(crate) fn parse(line: &'a str) -> Result<Command<'a>, &'static str> {
+impl TryFrom<&[u8]> for Command {
+    type Error = Mistake;
+
+    fn try_from(line: &[u8]) -> Result<Command, Mistake> {
+        let line = std::str::from_utf8(line).map_err(|_| Mistake::NoText)?;
         if let Some(("store", words)) = line.split_once(' ') {
-            return Ok(Command::Make(store_plan(words)?));
+            return Ok(Command::Make(Plan::try_from(words)?));
         }
         let mut words = line.split(' ');
         let head = words.next();
         match (head, words.next(), words.next(), words.next(), words.next()) {
             (Some("read"), Some(name), Some(count), None, _) => Ok(Command::Read {
-                name,
-                count: number(count)?,
+                count: count.parse()?,
+                name: Word::try_from(name.as_bytes()),
             }),
             (Some("put"), Some(name), Some(kind), Some(count), None) => Ok(Command::Put {
-                name,
-                kind,
-                count: number(count)?,
+                count: count.parse()?,
+                key: key(name, kind),
             }),
-            (Some("erase"), Some(name), Some(kind), None, _) => Ok(Command::Erase { name, kind }),
-            (Some("length"), Some(name), Some(kind), None, _) => Ok(Command::Length { name, kind }),
+            (Some("erase"), Some(name), Some(kind), None, _) => Ok(Command::Erase(key(
+                name, kind,
+            )?)),
+            (Some("length"), Some(name), Some(kind), None, _) => {
+                Ok(Command::Length(key(name, kind)?))
+            }
             (Some("fetch"), Some(name), Some(kind), Some(buffer), None) => Ok(Command::Fetch {
-                name,
-                kind,
-                buffer: number(buffer)?,
+                buffer: buffer.parse()?,
+                key: key(name, kind)?,
             }),
             (Some("takes"), Some(name), Some(kind), Some(count), None) => Ok(Command::Takes {
-                name,
-                kind,
-                count: change(count)?,
+                change: change(count)?,
+                key: key(name, kind)?,
             }),
-            _ => Err("no such command, or not its words"),
+            _ => Err(Mistake::NoCommand),
         }
     }
 }

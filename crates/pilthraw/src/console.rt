@@ -1,97 +1,82 @@
 //! The console: each line is a command, and has its reply.
 use crate::command::{Command, Plan};
 use crate::input::Input;
-use crate::stores::Entry;
-use crate::{reply, stores, texts};
+use crate::mistake::Mistake;
 use store::{Drafts, Slot, Slots, Store};
 
-/// Answers commands until the input ends. At first there is a store with no places.
-pub(crate) fn run(rt: &HostRuntime) -> anyhow::Result<()> {
-    let mut input = Input::new(rt)?;
-    let mut next = serve(rt, &mut input, &mut Slots::new(&mut []))?;
-    for _ in 0..u64::MAX {
-        match next {
-            Some(plan) => next = make_and_serve(rt, &mut input, plan)?,
-            None => return Ok(()),
-        }
-    }
-    Ok(())
+/// Where commands are read from, and where they are answered.
+#[derive(Drop)]
+pub(crate) struct Console<'a> {
+    pub(crate) rt: &'a HostRuntime,
+    pub(crate) input: Input,
 }
 
-// Makes a store, and answers commands with it.
-fn make_and_serve(rt: &HostRuntime, input: &mut Input, plan: Plan) -> anyhow::Result<Option<Plan>> {
-    let (Plan::Slots(places) | Plan::Drafts(places) | Plan::DraftsOverDrafts(places)) = plan;
-    let Ok(mut memory) = vec![in rt.alloc(); Slot::new(); places] else {
-        reply::error(rt, "there is no memory for so many places")?;
-        return serve(rt, input, &mut Slots::new(&mut []));
-    };
-    reply::done(rt)?;
-    let slots = Slots::new(memory.as_mut_slice());
-    match plan {
-        Plan::Slots(_) => {
-            let mut store = slots;
-            serve(rt, input, &mut store)
-        }
-        Plan::Drafts(_) => serve(rt, input, &mut Drafts::new(slots)),
-        Plan::DraftsOverDrafts(_) => serve(rt, input, &mut Drafts::new(Drafts::new(slots))),
-    }
-}
-
-// Answers commands with one store, until a line asks for another or the input ends.
-fn serve<S: Store>(
-    rt: &HostRuntime,
-    input: &mut Input,
-    store: &mut S,
-) -> anyhow::Result<Option<Plan>> {
-    for _ in 0..u64::MAX {
-        let Some(line) = input.line(rt.alloc())? else {
-            return Ok(None);
-        };
-        let Ok(line) = std::str::from_utf8(line.as_slice()) else {
-            reply::error(rt, "the line is no text")?;
-            continue;
-        };
-        match Command::parse(line) {
-            Ok(Command::Make(plan)) => return Ok(Some(plan)),
-            Ok(command) => obey(rt, input, store, command)?,
-            Err(what) => reply::error(rt, what)?,
-        }
-    }
-    Ok(None)
-}
-
-// The reply to a command that keeps the store.
-fn obey<S: Store>(
-    rt: &HostRuntime,
-    input: &mut Input,
-    store: &mut S,
-    command: Command<'_>,
-) -> anyhow::Result<()> {
-    match command {
-        Command::Read { name, count } => texts::read(rt, input, name, count),
-        Command::Put { name, kind, count } => stores::put(
+impl<'a> Console<'a> {
+    pub(crate) fn new(rt: &'a HostRuntime) -> anyhow::Result<Console<'a>> {
+        Ok(Console {
             rt,
-            input,
-            store,
-            Entry::parse(name, kind),
-            count,
-        ),
-        Command::Erase { name, kind } => match Entry::parse(name, kind) {
-            Ok(entry) => stores::erase(rt, store, entry),
-            Err(what) => reply::error(rt, what),
-        },
-        Command::Length { name, kind } => match Entry::parse(name, kind) {
-            Ok(entry) => stores::length(rt, store, entry),
-            Err(what) => reply::error(rt, what),
-        },
-        Command::Fetch { name, kind, buffer } => match Entry::parse(name, kind) {
-            Ok(entry) => stores::fetch(rt, store, entry, buffer),
-            Err(what) => reply::error(rt, what),
-        },
-        Command::Takes { name, kind, count } => match Entry::parse(name, kind) {
-            Ok(entry) => stores::takes(rt, store, entry, count),
-            Err(what) => reply::error(rt, what),
-        },
-        Command::Make(_) => Ok(()),
+            input: Input::new(rt)?,
+        })
+    }
+
+    /// Answers commands until the input ends. At first there is a store with no places.
+    pub(crate) fn run(&mut self) -> anyhow::Result<()> {
+        let mut next = self.serve(&mut Slots::new(&mut []))?;
+        // The input may never end, and every loop is proved to: this one ends after more stores than any input asks for.
+        for _ in 0..u64::MAX {
+            let Some(plan) = next else {
+                return Ok(());
+            };
+            next = self.make_and_serve(plan)?;
+        }
+        Ok(())
+    }
+
+    // Makes a store, and answers commands with it.
+    fn make_and_serve(&mut self, plan: Plan) -> anyhow::Result<Option<Plan>> {
+        let (Plan::Slots(places) | Plan::Drafts(places) | Plan::DraftsOverDrafts(places)) = plan;
+        let Ok(mut memory) = vec![in self.rt.alloc(); Slot::new(); places] else {
+            self.mistaken(Mistake::NoPlaces)?;
+            return self.serve(&mut Slots::new(&mut []));
+        };
+        self.done()?;
+        let slots = Slots::new(memory.as_mut_slice());
+        match plan {
+            Plan::Slots(_) => {
+                let mut store = slots;
+                self.serve(&mut store)
+            }
+            Plan::Drafts(_) => self.serve(&mut Drafts::new(slots)),
+            Plan::DraftsOverDrafts(_) => self.serve(&mut Drafts::new(Drafts::new(slots))),
+        }
+    }
+
+    // Answers commands with one store, until a line asks for another or the input ends.
+    fn serve<S: Store>(&mut self, store: &mut S) -> anyhow::Result<Option<Plan>> {
+        // As in `run`: more lines than any input has.
+        for _ in 0..u64::MAX {
+            let Some(line) = self.input.line()? else {
+                return Ok(None);
+            };
+            match Command::try_from(line.as_slice()) {
+                Ok(Command::Make(plan)) => return Ok(Some(plan)),
+                Ok(command) => self.obey(store, command)?,
+                Err(mistake) => self.mistaken(mistake)?,
+            }
+        }
+        Ok(None)
+    }
+
+    // The reply to a command that keeps the store.
+    fn obey<S: Store>(&mut self, store: &mut S, command: Command) -> anyhow::Result<()> {
+        match command {
+            Command::Read { name, count } => self.read(name, count),
+            Command::Put { key, count } => self.put(store, key, count),
+            Command::Erase(key) => self.taken(store.remove(key)),
+            Command::Length(key) => self.length(store.length(key)),
+            Command::Fetch { key, buffer } => self.fetch(store, key, buffer),
+            Command::Takes { key, change } => self.takes(store.takes(key, change)),
+            Command::Make(_) => Ok(()),
+        }
     }
 }

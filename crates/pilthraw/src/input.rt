@@ -1,4 +1,5 @@
 //! Standard input, as lines and as counted bytes.
+use crate::mistake::Mistake;
 use std::alloc::Global;
 use std::io;
 use std::io::{BufRead, BufReader, Read, Stdin};
@@ -6,19 +7,22 @@ use std::io::{BufRead, BufReader, Read, Stdin};
 /// What a command is read from.
 #[derive(Drop)]
 pub(crate) struct Input {
+    heap: Global,
     source: BufReader<Stdin>,
 }
 
 impl Input {
     pub(crate) fn new(rt: &HostRuntime) -> io::Result<Input> {
+        let heap = rt.alloc();
         Ok(Input {
-            source: BufReader::new(rt.alloc(), rt.stdin())?,
+            heap,
+            source: BufReader::new(heap, rt.stdin())?,
         })
     }
 
     /// The next line, without its line feed; nothing at the end of the input.
-    pub(crate) fn line(&mut self, heap: Global) -> io::Result<Option<Vec<u8>>> {
-        let mut line = Vec::new(heap);
+    pub(crate) fn line(&mut self) -> io::Result<Option<Vec<u8>>> {
+        let mut line = Vec::new(self.heap);
         if self.source.read_until(b'\n', &mut line)? == 0 {
             return Ok(None);
         }
@@ -28,16 +32,16 @@ impl Input {
         Ok(Some(line))
     }
 
-    /// So many bytes, which a line feed ends; nothing where they are not all there, or where another byte stands in its place.
-    pub(crate) fn counted(&mut self, heap: Global, count: usize) -> io::Result<Option<Vec<u8>>> {
-        let mut bytes = vec![in heap; 0u8; count]?;
+    /// So many bytes, which a line feed ends; a mistake where they are not all there, or where another byte stands in its place.
+    pub(crate) fn counted(&mut self, count: usize) -> io::Result<Result<Vec<u8>, Mistake>> {
+        let mut bytes = vec![in self.heap; 0u8; count]?;
         let mut end = [0u8];
         let whole = self.source.read_exact(bytes.as_mut_slice()).is_ok()
             && self.source.read_exact(&mut end).is_ok();
-        if whole && end[0] == b'\n' {
-            Ok(Some(bytes))
+        if whole && end == [b'\n'] {
+            Ok(Ok(bytes))
         } else {
-            Ok(None)
+            Ok(Err(Mistake::OtherCount))
         }
     }
 }

@@ -2,11 +2,13 @@
 
 #![tactic(auto)]
 
+use console::Console;
 use std::env;
 
 mod command;
 mod console;
 mod input;
+mod mistake;
 mod reply;
 mod stores;
 mod texts;
@@ -24,12 +26,8 @@ reads commands from standard input, one a line, and answers each:
 fn main(rt: HostRuntime) -> anyhow::Result<()> {
     let mut args = env::args(&rt)?;
     let _program = args.next();
-    let wanted = match args.next() {
-        Some(word) => word.as_str() == "console",
-        None => false,
-    };
-    if wanted {
-        console::run(&rt)
+    if args.next().is_some_and(|word| word.as_str() == "console") {
+        Console::new(&rt)?.run()
     } else {
         println!(rt; "{USAGE}")?;
         Ok(())

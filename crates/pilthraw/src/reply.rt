@@ -1,28 +1,41 @@
 //! The replies that several commands share.
+use crate::console::Console;
+use crate::mistake::Mistake;
+use rules::Cause;
 use std::io::Write;
+use store::NotTaken;
 use text::Refusal;
 
-pub(crate) fn done(rt: &HostRuntime) -> anyhow::Result<()> {
-    println!(rt; "done")?;
-    Ok(())
-}
+impl Console<'_> {
+    pub(crate) fn done(&self) -> anyhow::Result<()> {
+        println!(self.rt; "done")?;
+        Ok(())
+    }
 
-/// What is wrong with a line, in words.
-pub(crate) fn error(rt: &HostRuntime, what: &str) -> anyhow::Result<()> {
-    println!(rt; "error: {what}")?;
-    Ok(())
-}
+    /// What is wrong with a line, in words.
+    pub(crate) fn mistaken(&self, mistake: Mistake) -> anyhow::Result<()> {
+        println!(self.rt; "error: {mistake}")?;
+        Ok(())
+    }
 
-pub(crate) fn refused(rt: &HostRuntime, refusal: Refusal) -> anyhow::Result<()> {
-    println!(rt; "{refusal}")?;
-    Ok(())
-}
+    pub(crate) fn refused(&self, refusal: Refusal) -> anyhow::Result<()> {
+        println!(self.rt; "{refusal}")?;
+        Ok(())
+    }
 
-/// How many bytes, then the bytes and a line feed.
-pub(crate) fn answer(rt: &HostRuntime, bytes: &[u8]) -> anyhow::Result<()> {
-    let count = bytes.len();
-    println!(rt; "answer {count}")?;
-    rt.stdout().write_all(bytes)?;
-    println!(rt; "")?;
-    Ok(())
+    /// Whether a change was taken.
+    pub(crate) fn taken(&self, change: Result<(), NotTaken>) -> anyhow::Result<()> {
+        match change {
+            Ok(()) => self.done(),
+            Err(NotTaken) => self.refused(Refusal::bare(Cause::NotTaken)),
+        }
+    }
+
+    /// How many bytes, then the bytes and a line feed.
+    pub(crate) fn answer(&self, bytes: &[u8]) -> anyhow::Result<()> {
+        println!(self.rt; "answer {}", bytes.len())?;
+        self.rt.stdout().write_all(bytes)?;
+        println!(self.rt; "")?;
+        Ok(())
+    }
 }

@@ -1,32 +1,34 @@
 //! The command about a text by itself.
-use crate::input::Input;
-use crate::reply;
+use crate::console::Console;
+use crate::mistake::Mistake;
 use rules::Cause;
 use std::io::Write;
 use text::{ReadFault, Refusal};
-use word::Word;
+use word::{NotAWord, Word};
 
-/// What a text reads as.
-pub(crate) fn read(
-    rt: &HostRuntime,
-    input: &mut Input,
-    name: &str,
-    count: usize,
-) -> anyhow::Result<()> {
-    let Some(bytes) = input.counted(rt.alloc(), count)? else {
-        return reply::error(rt, "the bytes are not as many as their count says");
-    };
-    let Some(name) = Word::parse(name.as_bytes()) else {
-        return reply::refused(rt, Refusal::bare(Cause::NotAWord));
-    };
-    match text::read(rt.alloc(), name, bytes.as_slice()) {
-        Ok(text) => {
-            let count = text.forms.len();
-            println!(rt; "forms {count}")?;
-            rt.stdout().write_all(text.listing(rt.alloc())?.as_slice())?;
-            Ok(())
+impl Console<'_> {
+    /// What a text reads as.
+    pub(crate) fn read(
+        &mut self,
+        name: Result<Word, NotAWord>,
+        count: usize,
+    ) -> anyhow::Result<()> {
+        let bytes = match self.input.counted(count)? {
+            Ok(bytes) => bytes,
+            Err(mistake) => return self.mistaken(mistake),
+        };
+        let Ok(name) = name else {
+            return self.refused(Refusal::bare(Cause::NotAWord));
+        };
+        match text::read(self.rt.alloc(), name, bytes.as_slice()) {
+            Ok(text) => {
+                println!(self.rt; "forms {}", text.forms.len())?;
+                let listing = text.listing(self.rt.alloc())?;
+                self.rt.stdout().write_all(listing.as_slice())?;
+                Ok(())
+            }
+            Err(ReadFault::Refused(refusal)) => self.refused(refusal),
+            Err(ReadFault::Memory) => self.mistaken(Mistake::NoMemory),
         }
-        Err(ReadFault::Refused(refusal)) => reply::refused(rt, refusal),
-        Err(ReadFault::Memory) => reply::error(rt, "there is no memory left"),
     }
 }

@@ -1,5 +1,4 @@
 mod Firsts
 mod Looks
 mod Slottings
-mod Draftings
 mod Copies

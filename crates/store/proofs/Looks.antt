@@ -1,15 +1,18 @@
 -- What rows say of each entry, and after each change of them.
-use Rattle.std.proofs.Common.{◌≡◌, ℕ, zero, suc, ◌<◌, ◌≤◌, min, Bool, true, false, cond, ◌&&◌, ltb, ◌⊎◌, List, [], ◌∷◌, ◌++◌, map, length, get_or, take, set, is_some, Some, None, Option, sym, refl, ap, ◌∙◌, inl, inr, arith}
+use Rattle.std.proofs.Common.{◌≡◌, ℕ, zero, suc, ◌+◌, ◌<◌, Bool, true, false, cond, ◌&&◌, ltb, ◌⊎◌, List, [], ◌∷◌, map, length, get_or, set, is_some, MatchOption, Some, None, Option, subst, sym, refl, ap, ◌∙◌, inl, inr, arith}
+use Rattle.std.specs.List.{position_from, find}
+use Rattle.std.specs.Option.{option_map, option_or}
 use Rattle.std.proofs.lemmas.Slice.Eq.{bytes_eq-Decides}
-use Rattle.std.proofs.lemmas.List.{get_or-map, map-set, set-get_or, take_at}
+use Rattle.std.proofs.lemmas.Iterator.Adapters.{position_from-zero}
+use Rattle.std.proofs.lemmas.List.Quantifiers.{position-Some}
+use Rattle.std.proofs.lemmas.List.{get_or-map, map-set, set-get_or}
 use Rattle.std.proofs.lemmas.Bool.{and_parts, both_ways, false≢true, lt-ltb}
 use Rattle.word.specs.Words.{spelling}
 use Rattle.store.specs.declared.Kind.{Kind}
 use Rattle.store.specs.declared.Kind.TheVariants.{Text, Artefact}
-use Rattle.store.specs.declared.rows.Key.{Key}
-use Rattle.store.specs.Maps.{same_kind, same_place, Writes, Keeps, Map, Taken}
-use Rattle.store.specs.Rows.{Line, said, saying, is_at, is_free, first, look, or_else, place_for, set_at, written, cleared, struck, emptied, over}
-use Rattle.store.proofs.Firsts.{FirstAt, first_at}
+use Rattle.store.specs.declared.Key.{Key}
+use Rattle.store.specs.Maps.{same_kind, same_place, Writes, Map}
+use Rattle.store.specs.Rows.{Line, said, saying, is_at, is_free, look, place_for, set_at, written, cleared, struck, emptied, over}
 
 same_kind_path : (a b : Kind) → same_kind a b ≡ true → a ≡ b
 same_kind_path Text Text t = refl
@@ -33,68 +36,51 @@ module _ (n : List ℕ) (k : Kind) where
   at_same : (x : Line) (m : List ℕ) (j : Kind) → same_place n k m j ≡ true → is_at m j x ≡ is_at n k x
   at_same x m j t = let e = place_same n k m j t in cc
 
-  module _ (base : Option (List ℕ)) where
-    look_first : (xs : List Line) (m : ℕ) (d : Line) → FirstAt (is_at n k) xs m → look xs n k base ≡ said (get_or xs m d)
-    look_first [] m d h = absurd h
-    look_first (x ∷ xs) zero d h = rw h
-    look_first (x ∷ xs) (suc m) d h = let f = h.0 in rw f (look_first xs m d h.1)
-
-    look_none : (xs : List Line) (c : ℕ) → None ≡ first (is_at n k) xs c → look xs n k base ≡ base
-    look_none [] c e = refl
-    look_none (x ∷ xs) c e = by (λ h. look_none xs (suc c) h) (is_at n k x) refl
-      where
-        by : (None ≡ first (is_at n k) xs (suc c) → look xs n k base ≡ base) → (b : Bool) → is_at n k x ≡ b → look (x ∷ xs) n k base ≡ base
-        by more true t = let z : None ≡ Some c = rw t at e in absurd (let y : ◌≡◌ {A = ℕ} 0 1 = cc in omega arith)
-        by more false t = let z : None ≡ first (is_at n k) xs (suc c) = rw t at e in rw t (more z)
-
-  -- the rows that an entry may be written to
+  -- the row that an entry may be written to, and that no row before it has the entry
   abbrev Goes : List Line → ℕ → Type 0
-  Goes [] m = ⊥
-  Goes (x ∷ xs) zero = (is_at n k x ≡ true) ⊎ (x ≡ None)
-  Goes (x ∷ xs) (suc m) = (is_at n k x ≡ false) × Goes xs m
+  Goes xs i = (i < length xs) × ((is_at n k (get_or xs i None) ≡ true) ⊎ (get_or xs i None ≡ None)) × ((m : ℕ) → m < i → is_at n k (get_or xs m None) ≡ false)
 
-  goes_at : (xs : List Line) (m : ℕ) → FirstAt (is_at n k) xs m → Goes xs m
-  goes_at [] m h = h
-  goes_at (x ∷ xs) zero h = inl h
-  goes_at (x ∷ xs) (suc m) h = (h.0, goes_at xs m h.1)
+  none_at : (xs : List Line) (c : ℕ) → position_from (is_at n k) c xs ≡ None → (m : ℕ) → is_at n k (get_or xs m None) ≡ false
+  none_at [] c e m = refl
+  none_at (x ∷ xs) c e m = by (none_at xs (c + 1)) m (is_at n k x) refl
+    where
+      by : (position_from (is_at n k) (c + 1) xs ≡ None → (i : ℕ) → is_at n k (get_or xs i None) ≡ false) → (i : ℕ) (b : Bool) → is_at n k x ≡ b → is_at n k (get_or (x ∷ xs) i None) ≡ false
+      by more i true t = let z : Some c ≡ None = rw t at e in absurd (let y : ◌≡◌ {A = ℕ} 0 1 = cc in omega arith)
+      by more zero false t = t
+      by more (suc i) false t = more (rw t at e) i
 
   free_none : (x : Line) → is_free x ≡ true → x ≡ None
   free_none None t = refl
   free_none (Some s) t = absurd (false≢true t)
 
-  goes_free : (xs : List Line) (m c : ℕ) → None ≡ first (is_at n k) xs c → FirstAt is_free xs m → Goes xs m
-  goes_free [] m c e h = h
-  goes_free (x ∷ xs) zero c e h = inr (free_none x h)
-  goes_free (x ∷ xs) (suc m) c e h = by (λ z. goes_free xs m (suc c) z h.1) (is_at n k x) refl
-    where
-      by : (None ≡ first (is_at n k) xs (suc c) → Goes xs m) → (b : Bool) → is_at n k x ≡ b → Goes (x ∷ xs) (suc m)
-      by more true t = let z : None ≡ Some c = rw t at e in absurd (let y : ◌≡◌ {A = ℕ} 0 1 = cc in omega arith)
-      by more false t = let z : None ≡ first (is_at n k) xs (suc c) = rw t at e in (t, more z)
-
   goes_place : (xs : List Line) (i : ℕ) → place_for xs n k ≡ Some i → Goes xs i
-  goes_place xs i e = by (first (is_at n k) xs 0) refl (sym e)
+  goes_place xs i e = by (position_from (is_at n k) 0 xs) refl
     where
-      by : (o : Option ℕ) → o ≡ first (is_at n k) xs 0 → Some i ≡ or_else o (first is_free xs 0) → Goes xs i
-      by (Some m) f g =
-          let h : m ≡ i = cc in
-          goes_at xs i (first_at (is_at n k) xs i (ap Some (sym h) ∙ f))
-      by None f g = goes_free xs i 0 f (first_at is_free xs i g)
+      by : (o : Option ℕ) → position_from (is_at n k) 0 xs ≡ o → Goes xs i
+      by (Some m) t =
+          let f : Some m ≡ Some i = rw t at e in
+          let h = position-Some (is_at n k) xs i None (position_from-zero (is_at n k) xs ∙ t ∙ f) in
+          (h.0, inl h.1, h.2)
+      by None t =
+          let f : position_from is_free 0 xs ≡ Some i = rw t at e in
+          let h = position-Some is_free xs i None (position_from-zero is_free xs ∙ f) in
+          (h.0, inr (free_none _ h.1), λ m l. none_at xs 0 t m)
 
   module _ (v : Option (List ℕ)) (m : List ℕ) (j : Kind) (base : Option (List ℕ)) where
     look_set : (xs : List Line) (i : ℕ) → Goes xs i → look (set xs i (Some (record { name = n; kind = k; value = v }))) m j base ≡ cond (same_place n k m j) v (look xs m j base)
-    look_set [] i h = absurd h
+    look_set [] i h = absurd (let z : ◌≡◌ {A = ℕ} 0 1 = omega (arith, h.0) in omega arith)
     look_set (x ∷ xs) zero h = by (same_place n k m j) refl
       where
         by : (b : Bool) → same_place n k m j ≡ b → cond (same_place n k m j) v (look xs m j base) ≡ cond (same_place n k m j) v (look (x ∷ xs) m j base)
         by true t = rw t
         by false t =
-            let o : is_at m j x ≡ false = elim h [ inl a ↦ at_other x m j a t | inr a ↦ ap (is_at m j) a ] in
+            let o : is_at m j x ≡ false = elim h.1 [ inl a ↦ at_other x m j a t | inr a ↦ ap (is_at m j) a ] in
             rw (t, o)
-    look_set (x ∷ xs) (suc i) h = by (look_set xs i h.1) (same_place n k m j) refl
+    look_set (x ∷ xs) (suc i) h = by (look_set xs i (omega (arith, h.0), h.1, λ l t. h.2 (suc l) (omega arith))) (same_place n k m j) refl
       where
         by : look (set xs i (Some (record { name = n; kind = k; value = v }))) m j base ≡ cond (same_place n k m j) v (look xs m j base) → (b : Bool) → same_place n k m j ≡ b → look (x ∷ set xs i (Some (record { name = n; kind = k; value = v }))) m j base ≡ cond (same_place n k m j) v (look (x ∷ xs) m j base)
         by more true t =
-            let o : is_at m j x ≡ false = at_same x m j t ∙ h.0 in
+            let o : is_at m j x ≡ false = at_same x m j t ∙ h.2 0 (omega arith) in
             let f : look (set xs i (Some (record { name = n; kind = k; value = v }))) m j base ≡ v = rw t at more in
             rw (o, t) f
         by more false t =
@@ -134,19 +120,34 @@ module _ (n : List ℕ) (k : Kind) where
             rw (t, f) (cleared_other x (look xs m j base) t)
 
 -- the row that was found, by what it says, or that none was
-module _ {X : Type 0} (f : X → Line) (xs : List X) (n : List ℕ) (k : Kind) where
-  pub look_found : (i : ℕ) (x : X) → Some i ≡ first (is_at n k) (map f xs) 0 → i < length xs → x ≡ get_or xs i x → (b : Option (List ℕ)) → look (map f xs) n k b ≡ said (f x)
-  look_found i x e l is b = look_first n k b (map f xs) i (f x) (first_at (is_at n k) (map f xs) i e) ∙ ap said (get_or-map f xs i x (f x) l ∙ ap f (sym is))
+module _ {X : Type 0} (f : X → Line) (n : List ℕ) (k : Kind) where
+  abbrev Says : List X → Option X → Type 0
+  Says xs o = MatchOption o ((b : Option (List ℕ)) → look (map f xs) n k b ≡ b) (λ x. (b : Option (List ℕ)) → look (map f xs) n k b ≡ said (f x))
 
-  pub look_missed : None ≡ first (is_at n k) (map f xs) 0 → (b : Option (List ℕ)) → look (map f xs) n k b ≡ b
-  look_missed e b = look_none n k b (map f xs) 0 e
+  says_more : (x : X) (xs : List X) (o : Option X) → is_at n k (f x) ≡ false → Says xs o → Says (x ∷ xs) o
+  says_more x xs None t h = λ b. rw t (h b)
+  says_more x xs (Some y) t h = λ b. rw t (h b)
+
+  look_find : (xs : List X) → Says xs (find (λ x. is_at n k (f x)) xs)
+  look_find [] = λ b. refl
+  look_find (x ∷ xs) = by (look_find xs) (is_at n k (f x)) refl
+    where
+      by : Says xs (find (λ y. is_at n k (f y)) xs) → (c : Bool) → is_at n k (f x) ≡ c → Says (x ∷ xs) (find (λ y. is_at n k (f y)) (x ∷ xs))
+      by more true t =
+          let h : (b : Option (List ℕ)) → look (map f (x ∷ xs)) n k b ≡ said (f x) = λ b. rw t in
+          let e : find (λ y. is_at n k (f y)) (x ∷ xs) ≡ Some x = rw t in
+          subst (Says (x ∷ xs)) (sym e) h
+      by more false t =
+          let h = says_more x xs (find (λ y. is_at n k (f y)) xs) t more in
+          let e : find (λ y. is_at n k (f y)) (x ∷ xs) ≡ find (λ y. is_at n k (f y)) xs = rw t in
+          subst (Says (x ∷ xs)) (sym e) h
+
+  pub look_found : {R : Type 0} (now : R → X) (o : Option R) (xs : List X) → option_map now o ≡ find (λ x. is_at n k (f x)) xs → MatchOption o ((b : Option (List ℕ)) → look (map f xs) n k b ≡ b) (λ r. (b : Option (List ℕ)) → look (map f xs) n k b ≡ said (f (now r)))
+  look_found now None xs e = subst (Says xs) (sym e) (look_find xs)
+  look_found now (Some r) xs e = subst (Says xs) (sym e) (look_find xs)
 
 -- a row that was written, or left since the bytes do not fit
 module _ {X : Type 0} (f : X → Line) (xs : List X) (key : Key) (i : ℕ) (e : Some i ≡ place_for (map f xs) (spelling key.name) key.kind) where
-  pub write_test : (ok fits : Bool) → ok ≡ fits → ok ≡ (fits && is_some (place_for (map f xs) (spelling key.name) key.kind))
-  write_test ok true t = t ∙ ap is_some e
-  write_test ok false t = t
-
   pub write_after : (x y : X) (ok : Bool) (v : Option (List ℕ)) → i < length xs → f y ≡ cond ok (saying key v) (f (get_or xs i x)) → map f (set xs i y) ≡ cond ok (written (map f xs) key v) (map f xs)
   write_after x y true v l t = map-set f xs i y ∙ ap (set (map f xs) i) t ∙ ap (λ o. set_at (map f xs) o (saying key v)) e
   write_after x y false v l t = map-set f xs i y ∙ ap (set (map f xs) i) (t ∙ sym (get_or-map f xs i x (f x) l)) ∙ set-get_or (map f xs) i (f x)
@@ -166,9 +167,14 @@ module _ (rows : List Line) (key : Key) (below : Map) (v : Option (List ℕ)) wh
   write_writes after true fits t e m j = ap (λ rs. over rs below m j) e ∙ written_writes (and_parts _ _ (sym t)).1 m j
   write_writes after false fits t e m j = ap (λ rs. over rs below m j) e
 
-pub write_keeps : (takes : List Line → Taken) (rows changed after : List Line) (ok : Bool) → after ≡ cond ok changed rows → Keeps ok (takes rows) (takes after)
-write_keeps takes rows changed after true e = tt
-write_keeps takes rows changed after false e = λ m j c. ap (λ rs. takes rs m j c) e
+  -- a row that marks the entry as absent, or none where there is no room for it
+  pub hide_writes : (after : List Line) (ok : Bool) → ok ≡ is_some (place_for rows (spelling key.name) key.kind) → after ≡ written rows key v → Writes ok (over rows below) (over after below) (spelling key.name) key.kind v
+  hide_writes after true t e m j = write_writes after true true t e m j
+  hide_writes after false t e m j = by (place_for rows (spelling key.name) key.kind) refl
+    where
+      by : (o : Option ℕ) → place_for rows (spelling key.name) key.kind ≡ o → over after below m j ≡ over rows below m j
+      by None q = ap (λ rs. over rs below m j) (e ∙ ap (λ o. set_at rows o (saying key v)) q)
+      by (Some i) q = absurd (both_ways _ (sym t) (ap is_some q))
 
 -- rows over nothing, once none has the entry
 pub struck_writes : (rows after : List Line) (key : Key) (below : Map) → below (spelling key.name) key.kind ≡ None → after ≡ struck rows key → Writes true (over rows below) (over after below) (spelling key.name) key.kind None
@@ -189,22 +195,16 @@ look_emptied (r ∷ rows) n k b = look_emptied rows n k b
 pub over_emptied : (rows after : List Line) → after ≡ emptied rows → (n : List ℕ) (k : Kind) (below : Map) → over after below n k ≡ below n k
 over_emptied rows after e n k below = ap (λ rs. over rs below n k) e ∙ look_emptied rows n k (below n k)
 
-first_emptied : (rows : List Line) (n : List ℕ) (k : Kind) (c : ℕ) → first (is_at n k) (emptied rows) c ≡ None
+first_emptied : (rows : List Line) (n : List ℕ) (k : Kind) (c : ℕ) → position_from (is_at n k) c (emptied rows) ≡ None
 first_emptied [] n k c = refl
-first_emptied (r ∷ rows) n k c = first_emptied rows n k (suc c)
+first_emptied (r ∷ rows) n k c = first_emptied rows n k (c + 1)
 
-free_emptied : (rows : List Line) → is_some (first is_free (emptied rows) 0) ≡ ltb 0 (length rows)
+free_emptied : (rows : List Line) → is_some (position_from is_free 0 (emptied rows)) ≡ ltb 0 (length rows)
 free_emptied [] = refl
 free_emptied (r ∷ rows) = sym (lt-ltb 0 (length (r ∷ rows)) (omega arith))
 
 pub place_emptied : (rows after : List Line) → after ≡ emptied rows → (n : List ℕ) (k : Kind) → is_some (place_for after n k) ≡ ltb 0 (length rows)
 place_emptied rows after e n k =
     ap (λ rs. is_some (place_for rs n k)) e
-    ∙ ap (λ o. is_some (or_else o (first is_free (emptied rows) 0))) (first_emptied rows n k 0)
+    ∙ ap (λ o. is_some (option_or o (position_from is_free 0 (emptied rows)))) (first_emptied rows n k 0)
     ∙ free_emptied rows
-
--- bytes that were copied to the front of an array, and are read again up to their length
-pub kept_front : (room : ℕ) (bytes front rest : List ℕ) → length bytes ≤ room → front ≡ bytes → take (min (length bytes) room) (front ++ rest) ≡ bytes
-kept_front room bytes front rest l e =
-    let m : min (length bytes) room ≡ length bytes = omega arith in
-    ap (λ k. take k (front ++ rest)) m ∙ take_at front rest (length bytes) (ap length e) ∙ e

@@ -1,30 +1,20 @@
 -- What drafts over a store hold, and which changes they take. Assumes nothing.
-use Rattle.std.specs.Prelude.{ℕ, min, Bool, true, not, ◌&&◌, ◌||◌, List, map, take, is_some, Some, None, Option, nat_le}
+use Rattle.std.specs.Prelude.{ℕ, Bool, true, not, ◌&&◌, ◌||◌, List, map, is_some, Some, None, Option, nat_le}
 use Rattle.store.specs.declared.Change.{Change}
 use Rattle.store.specs.declared.Change.TheVariants.{Put, Remove}
-use Rattle.store.specs.declared.rows.Key.{Key}
-use Rattle.store.specs.declared.drafts.DraftRow.{DraftRow}
-use Rattle.store.specs.declared.drafts.Head.{Head}
+use Rattle.store.specs.declared.Key.{Key}
+use Rattle.store.specs.declared.row.Row.{Row}
 use Rattle.store.specs.Maps.{Map, Taken}
-use Rattle.store.specs.Rows.{Line, saying, over, place_for, written, struck}
+use Rattle.store.specs.Rows.{Line, row_says, over, place_for, written, struck}
 
 -- no length is a mark of absence
-abbrev pub draft : Option ℕ → List ℕ → Option (List ℕ)
-draft None bytes = None
-draft (Some len) bytes = Some (take (min len 1024) bytes)
+abbrev pub draft_says : Row (Option ℕ) 1024 → Line
+draft_says r = row_says (λ len. len) 1024 r
 
--- every value of the type says something
-abbrev pub head_says : Option Head → List ℕ → Line
-head_says None bytes = None
-head_says (Some h) bytes = saying h.key (draft h.len bytes)
-
-abbrev pub draft_says : DraftRow → Line
-draft_says r = head_says r.head r.bytes
-
-abbrev pub draft_rows : List DraftRow → List Line
+abbrev pub draft_rows : List (Row (Option ℕ) 1024) → List Line
 draft_rows rs = map draft_says rs
 
-abbrev pub drafted : List DraftRow → Map → Map
+abbrev pub drafted : List (Row (Option ℕ) 1024) → Map → Map
 drafted rs below = over (draft_rows rs) below
 
 -- a removal needs a row only for an entry that stands below
@@ -32,7 +22,7 @@ abbrev pub taken_over : Map → List Line → Taken
 taken_over below rows n k (Put len) = nat_le len 1024 && is_some (place_for rows n k)
 taken_over below rows n k Remove = not (is_some (below n k)) || is_some (place_for rows n k)
 
-abbrev pub drafts_take : List DraftRow → Map → Taken
+abbrev pub drafts_take : List (Row (Option ℕ) 1024) → Map → Taken
 drafts_take rs below = taken_over below (draft_rows rs)
 
 -- what is taken where every row is free

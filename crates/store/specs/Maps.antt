@@ -1,5 +1,5 @@
 -- What a store's calls answer, over the map that it stands for. Assumes nothing.
-use Rattle.std.specs.Prelude.{◌≡◌, ℕ, Bool, true, false, cond, ◌&&◌, List, ◌++◌, length, drop, Some, None, Ok, Err, Option, Result, nat_le}
+use Rattle.std.specs.Prelude.{◌≡◌, ℕ, Bool, true, false, cond, ◌&&◌, List, ◌++◌, length, drop, codes, Some, None, Ok, Err, Option, Result, nat_le}
 use Rattle.std.specs.Str.{bytes_eq}
 use Rattle.store.specs.declared.Kind.{Kind}
 use Rattle.store.specs.declared.Kind.TheVariants.{Text, Artefact}
@@ -20,6 +20,10 @@ same_kind Text Text = true
 same_kind Text Artefact = false
 same_kind Artefact Text = false
 same_kind Artefact Artefact = true
+
+-- the kind of that name
+abbrev pub kind_named : List ℕ → Option Kind
+kind_named text = cond (bytes_eq text (codes "text")) (Some Text) (cond (bytes_eq text (codes "artefact")) (Some Artefact) None)
 
 -- one entry is the other
 abbrev pub same_place : List ℕ → Kind → List ℕ → Kind → Bool

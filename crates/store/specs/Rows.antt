@@ -1,8 +1,12 @@
 -- Tables of rows: what each row says, and the map that a table lays over another. Assumes nothing.
-use Rattle.std.specs.Prelude.{◌≡◌, ℕ, suc, Bool, true, false, cond, List, [], ◌∷◌, map, Some, None, Option, slice_set}
+use Rattle.std.specs.Prelude.{ℕ, min, Bool, true, false, cond, List, [], ◌∷◌, map, take, Some, None, Option, slice_set}
+use Rattle.std.specs.List.{position_from}
+use Rattle.std.specs.Option.{option_map, option_or}
 use Rattle.word.specs.Words.{spelling}
 use Rattle.store.specs.declared.Kind.{Kind}
-use Rattle.store.specs.declared.rows.Key.{Key}
+use Rattle.store.specs.declared.Key.{Key}
+use Rattle.store.specs.declared.row.Head.{Head}
+use Rattle.store.specs.declared.row.Row.{Row}
 use Rattle.store.specs.Maps.{same_place, Map}
 
 -- what a row says of one entry: its bytes, or that it is absent
@@ -17,6 +21,17 @@ Line = Option Said
 
 abbrev pub saying : Key → Option (List ℕ) → Line
 saying key v = Some (record { name = spelling key.name; kind = key.kind; value = v })
+
+-- every value of the type says something; counts reads the length that the row keeps
+abbrev pub head_says : {L : Type 0} → (L → Option ℕ) → ℕ → Option (Head L) → List ℕ → Line
+head_says counts room None bytes = None
+head_says counts room (Some h) bytes = saying h.key (option_map (λ len. take (min len room) bytes) (counts h.len))
+
+abbrev pub row_says : {L : Type 0} → (L → Option ℕ) → (room : ℕ) → Row L room → Line
+row_says counts room r = head_says counts room r.head r.bytes
+
+abbrev pub rows_say : {L : Type 0} → (L → Option ℕ) → (room : ℕ) → List (Row L room) → List Line
+rows_say counts room rs = map (row_says counts room) rs
 
 abbrev pub said : Line → Option (List ℕ)
 said None = None
@@ -35,11 +50,6 @@ abbrev pub sought : Option Key → Line → Bool
 sought None = is_free
 sought (Some key) = is_at (spelling key.name) key.kind
 
--- the index, counted from n, of the first that passes
-abbrev pub first : {X : Type 0} → (X → Bool) → List X → ℕ → Option ℕ
-first p [] n = None
-first p (x ∷ xs) n = cond (p x) (Some n) (first p xs (suc n))
-
 -- the first row that has the entry wins over what is below
 abbrev pub look : List Line → List ℕ → Kind → Option (List ℕ) → Option (List ℕ)
 look [] n k below = below
@@ -53,12 +63,8 @@ abbrev pub nothing : Map
 nothing n k = None
 
 -- where an entry goes: to its own row, or to the first free one
-abbrev pub or_else : Option ℕ → Option ℕ → Option ℕ
-or_else (Some i) o = Some i
-or_else None o = o
-
 abbrev pub place_for : List Line → List ℕ → Kind → Option ℕ
-place_for rs n k = or_else (first (is_at n k) rs 0) (first is_free rs 0)
+place_for rs n k = option_or (position_from (is_at n k) 0 rs) (position_from is_free 0 rs)
 
 abbrev pub set_at : List Line → Option ℕ → Line → List Line
 set_at rs None r = rs
@@ -77,10 +83,3 @@ struck rs key = map (cleared (spelling key.name) key.kind) rs
 
 abbrev pub emptied : List Line → List Line
 emptied rs = map (λ _. None) rs
-
--- the key of a row, if it has one
-abbrev pub HasKey : Option Key → Line → Type 0
-HasKey None None = Unit {0}
-HasKey None (Some s) = ⊥
-HasKey (Some key) None = ⊥
-HasKey (Some key) (Some s) = (spelling key.name ≡ s.name) × (key.kind ≡ s.kind)

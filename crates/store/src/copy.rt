@@ -5,11 +5,10 @@ ghost use Rattle.store.specs.declared.copy.CopyFault.TheVariants.{NotTaken as Re
 ghost use Rattle.store.specs.Copied.{copied};
 ghost use Rattle.store.specs.Maps.{fronted, Writes, Keeps};
 
-use super::{Kind, Miss, NotTaken, Store};
-use word::Word;
+use super::{Key, Miss, NotTaken, Store};
 
 /// Why an entry was not copied.
-#[derive(Clone, Copy)]
+#[derive(Clone, Copy, PartialEq, Eq, Debug)]
 pub enum CopyFault {
     /// The other store does not take it.
     NotTaken,
@@ -29,18 +28,17 @@ impl From<NotTaken> for CopyFault {
 pub fn copy_entry<A: Store, B: Store>(
     from: &A,
     to: &mut B,
-    name: Word,
-    kind: Kind,
+    key: Key,
     buffer: &mut [u8],
 ) -> Result<(), CopyFault>
-    ensures value { result ≡ copied (A.Store.holds from.now (spelling name) kind) (B.Store.accepts to.old (spelling name) kind) (length buffer.old) }
-    ensures after { Writes (is_ok result) (B.Store.holds to.old) (B.Store.holds to.new) (spelling name) kind (A.Store.holds from.now (spelling name) kind) }
+    ensures value { result ≡ copied (A.Store.holds from.now (spelling key.name) key.kind) (B.Store.accepts to.old (spelling key.name) key.kind) (length buffer.old) }
+    ensures after { Writes (is_ok result) (B.Store.holds to.old) (B.Store.holds to.new) (spelling key.name) key.kind (A.Store.holds from.now (spelling key.name) key.kind) }
     ensures same { Keeps (is_ok result) (B.Store.accepts to.old) (B.Store.accepts to.new) }
-    ensures buffer { buffer.new ≡ fronted (A.Store.holds from.now (spelling name) kind) buffer.old }
+    ensures buffer { buffer.new ≡ fronted (A.Store.holds from.now (spelling key.name) key.kind) buffer.old }
 {
-    match from.fetch(name, kind, buffer) {
-        Ok(len) => to.put(name, kind, &buffer[0..len])?,
-        Err(Miss::Absent) => to.remove(name, kind)?,
+    match from.fetch(key, buffer) {
+        Ok(len) => to.put(key, &buffer[0..len])?,
+        Err(Miss::Absent) => to.remove(key)?,
         Err(Miss::Short) => return Err(CopyFault::Short),
     }
     Ok(())

@@ -1,102 +1,32 @@
 //! Drafts over a store: a few rows that win over what is below.
-ghost use Rattle.std.specs.Prelude.{◌≡◌, ℕ, List, length, replicate, is_some, is_ok, if◌then◌else◌, Some, None, nat_le};
+ghost use Rattle.std.specs.Prelude.{◌≡◌, ℕ, List, length, replicate, is_some, is_ok, if◌then◌else◌, Some, None};
 ghost use Rattle.word.specs.Words.{spelling};
 ghost use Rattle.store.specs.declared.Change.{Change};
 ghost use Rattle.store.specs.declared.Kind.{Kind};
 ghost use Rattle.store.specs.Clears.{drafts_clear};
-ghost use Rattle.store.specs.Drafted.{draft_says, draft_rows, drafted, drafts_take, taken_fresh, removed};
+ghost use Rattle.store.specs.Drafted.{draft_rows, drafted, drafts_take, taken_fresh, removed};
 ghost use Rattle.store.specs.Maps.{Writes, Keeps};
-ghost use Rattle.store.specs.Rows.{saying, place_for, written};
+ghost use Rattle.store.specs.Rows.{place_for, written};
 
-use super::rows::{Key, Keyed, count, deliver, place, row_of, strike, write};
-use super::{Change, Kind, Miss, NotTaken, Store};
-use word::Word;
+use super::row::Row;
+use super::rows::{deliver, place, row_of, strike, write};
+use super::{Change, Key, Miss, NotTaken, Store};
 
 const ROOM: usize = 1024;
 
 const ROWS: usize = 8;
 
-/// Whose draft a row is, and how many bytes it has: none where it marks an absence.
-#[derive(Clone, Copy)]
-struct Head {
-    key: Key,
-    len: Option<usize>,
-}
-
-/// Room for the draft of one entry.
-#[derive(Clone, Copy)]
-struct DraftRow {
-    head: Option<Head>,
-    bytes: [u8; ROOM],
-}
-
-impl DraftRow {
-    /// A row with no draft.
-    fn new() -> DraftRow
-        ensures { draft_says result ≡ None }
-    {
-        DraftRow {
-            head: None,
-            bytes: [0; ROOM],
-        }
-    }
-
-    /// Marks an entry as absent.
-    fn hide(&mut self, key: Key)
-        ensures { draft_says self.new ≡ saying key None }
-    {
-        self.head = Some(Head { key, len: None });
-    }
-}
-
-impl Keyed for DraftRow {
-    ghost says = { draft_says };
-
-    ghost fits = { λ n. nat_le n 1024 };
-
-    fn key(&self) -> Option<Key> {
-        match self.head {
-            Some(head) => Some(head.key),
-            None => None,
-        }
-    }
-
-    fn held(&self) -> Option<&[u8]> {
-        let head = self.head?;
-        let len = head.len?.min(ROOM);
-        Some(&self.bytes[0..len])
-    }
-
-    fn fill(&mut self, key: Key, bytes: &[u8]) -> Result<(), NotTaken> {
-        let len = bytes.len();
-        if len > ROOM {
-            return Err(NotTaken);
-        }
-        self.bytes[0..len].copy_from_slice(bytes);
-        self.head = Some(Head {
-            key,
-            len: Some(len),
-        });
-        Ok(())
-    }
-
-    fn free(&mut self) {
-        self.head = None;
-    }
-}
+/// Room for one draft: its bytes, or a mark that its entry is absent.
+type DraftRow = Row<Option<usize>, ROOM>;
 
 /// Marks an entry as absent in the row that it goes to.
 fn hide(rows: &mut [DraftRow], key: Key) -> Result<(), NotTaken>
     ensures test { is_ok result ≡ is_some (place_for (draft_rows rows.old) (spelling key.name) key.kind) }
     ensures after { draft_rows rows.new ≡ written (draft_rows rows.old) key None }
 {
-    match place(rows, key) {
-        Some(i) => {
-            rows[i].hide(key);
-            Ok(())
-        }
-        None => Err(NotTaken),
-    }
+    let i = place(rows, key).ok_or(NotTaken)?;
+    rows[i].hide(key);
+    Ok(())
 }
 
 /// Drafts over a store, which they never alter.
@@ -137,48 +67,45 @@ impl<S: Store> Store for Drafts<S> {
 
     ghost clears = { λ d n k e. drafts_clear n k (S.Store.holds d.below) (draft_rows d.rows) e };
 
-    fn length(&self, name: Word, kind: Kind) -> Option<usize> {
-        match row_of(&self.rows, Key { name, kind }) {
-            Some(row) => count(row.held()),
-            None => self.below.length(name, kind),
+    fn length(&self, key: Key) -> Option<usize> {
+        match row_of(&self.rows, key) {
+            Some(row) => row.held().map(|bytes| bytes.len()),
+            None => self.below.length(key),
         }
     }
 
-    fn fetch(&self, name: Word, kind: Kind, out: &mut [u8]) -> Result<usize, Miss> {
-        match row_of(&self.rows, Key { name, kind }) {
+    fn fetch(&self, key: Key, out: &mut [u8]) -> Result<usize, Miss> {
+        match row_of(&self.rows, key) {
             Some(row) => deliver(row.held(), out),
-            None => self.below.fetch(name, kind, out),
+            None => self.below.fetch(key, out),
         }
     }
 
-    fn takes(&self, name: Word, kind: Kind, change: Change) -> bool {
-        let key = Key { name, kind };
+    fn takes(&self, key: Key, change: Change) -> bool {
         match change {
             Change::Put(len) => len <= ROOM && place(&self.rows, key).is_some(),
-            Change::Remove => self.below.length(name, kind).is_none()
-                || place(&self.rows, key).is_some(),
+            Change::Remove => self.below.length(key).is_none() || place(&self.rows, key).is_some(),
         }
     }
 
-    fn put(&mut self, name: Word, kind: Kind, bytes: &[u8]) -> Result<(), NotTaken>
-        ensures test { is_ok result ≡ drafts_take self.old.rows (S.Store.holds self.old.below) (spelling name) kind (Change.Put (length bytes.now)) }
-        ensures after { Writes (is_ok result) (drafted self.old.rows (S.Store.holds self.old.below)) (drafted self.new.rows (S.Store.holds self.new.below)) (spelling name) kind (Some bytes.now) }
+    fn put(&mut self, key: Key, bytes: &[u8]) -> Result<(), NotTaken>
+        ensures test { is_ok result ≡ drafts_take self.old.rows (S.Store.holds self.old.below) (spelling key.name) key.kind (Change.Put (length bytes.now)) }
+        ensures after { Writes (is_ok result) (drafted self.old.rows (S.Store.holds self.old.below)) (drafted self.new.rows (S.Store.holds self.new.below)) (spelling key.name) key.kind (Some bytes.now) }
         ensures same { Keeps (is_ok result) (drafts_take self.old.rows (S.Store.holds self.old.below)) (drafts_take self.new.rows (S.Store.holds self.new.below)) }
-        ensures rows { draft_rows self.new.rows ≡ (if is_ok result then written (draft_rows self.old.rows) (record { name = name; kind = kind }) (Some bytes.now) else draft_rows self.old.rows) }
+        ensures rows { draft_rows self.new.rows ≡ (if is_ok result then written (draft_rows self.old.rows) key (Some bytes.now) else draft_rows self.old.rows) }
         ensures below { self.new.below ≡ self.old.below }
     {
-        write(&mut self.rows, Key { name, kind }, bytes)
+        write(&mut self.rows, key, bytes)
     }
 
-    fn remove(&mut self, name: Word, kind: Kind) -> Result<(), NotTaken>
-        ensures test { is_ok result ≡ drafts_take self.old.rows (S.Store.holds self.old.below) (spelling name) kind Change.Remove }
-        ensures after { Writes (is_ok result) (drafted self.old.rows (S.Store.holds self.old.below)) (drafted self.new.rows (S.Store.holds self.new.below)) (spelling name) kind None }
+    fn remove(&mut self, key: Key) -> Result<(), NotTaken>
+        ensures test { is_ok result ≡ drafts_take self.old.rows (S.Store.holds self.old.below) (spelling key.name) key.kind Change.Remove }
+        ensures after { Writes (is_ok result) (drafted self.old.rows (S.Store.holds self.old.below)) (drafted self.new.rows (S.Store.holds self.new.below)) (spelling key.name) key.kind None }
         ensures same { Keeps (is_ok result) (drafts_take self.old.rows (S.Store.holds self.old.below)) (drafts_take self.new.rows (S.Store.holds self.new.below)) }
-        ensures rows { draft_rows self.new.rows ≡ removed (S.Store.holds self.old.below (spelling name) kind) (draft_rows self.old.rows) (record { name = name; kind = kind }) }
+        ensures rows { draft_rows self.new.rows ≡ removed (S.Store.holds self.old.below (spelling key.name) key.kind) (draft_rows self.old.rows) key }
         ensures below { self.new.below ≡ self.old.below }
     {
-        let key = Key { name, kind };
-        if self.below.length(name, kind).is_some() {
+        if self.below.length(key).is_some() {
             return hide(&mut self.rows, key);
         }
         strike(&mut self.rows, key);

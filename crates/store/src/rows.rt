@@ -1,137 +1,81 @@
 //! Tables of rows that are searched by name and kind. The first row that has an entry wins.
-ghost use Rattle.std.specs.Prelude.{◌≡◌, ℕ, ◌<◌, Bool, true, ◌&&◌, List, map, length, is_some, IfSome, is_ok, if◌then◌else◌, Some, None, Option, MatchOption};
+ghost use Rattle.std.specs.Prelude.{◌≡◌, ◌<◌, ◌&&◌, List, ℕ, length, is_some, IfSome, is_ok, if◌then◌else◌, Some, Option, MatchOption, nat_le};
+ghost use Rattle.std.specs.List.{position_from};
 ghost use Rattle.std.specs.Option.{option_map};
 ghost use Rattle.word.specs.Words.{spelling};
-ghost use Rattle.store.specs.declared.rows.Key.{Key};
 ghost use Rattle.store.specs.Maps.{answered, fronted};
-ghost use Rattle.store.specs.Rows.{Line, said, saying, sought, first, look, place_for, written, cleared, struck, emptied, HasKey};
+ghost use Rattle.store.specs.Rows.{rows_say, row_says, said, sought, is_at, is_free, look, place_for, written, struck, emptied};
 
-use super::{Kind, Miss, NotTaken};
-use word::Word;
+use super::row::{Length, Row};
+use super::{Key, Miss, NotTaken};
 
-/// The name and kind of an entry.
-#[derive(Clone, Copy)]
-pub struct Key {
-    pub name: Word,
-    pub kind: Kind,
-}
-
-/// A row that is searched by name and kind.
-pub trait Keyed {
-    // what it says: nothing where it is free, else of one entry its bytes or that it is absent
-    ghost says: { Self → Line };
-
-    // which numbers of bytes it has room for
-    ghost fits: { ℕ → Bool };
-
-    /// Whose row it is.
-    fn key(&self) -> Option<Key>
-        ensures { HasKey result (says self.now) };
-
-    /// The bytes that it holds.
-    fn held(&self) -> Option<&[u8]>
-        ensures { option_map (λ x. x.now) result ≡ said (says self.now) };
-
-    /// Takes an entry in, if its bytes fit.
-    fn fill(&mut self, key: Key, bytes: &[u8]) -> Result<(), NotTaken>
-        ensures test { is_ok result ≡ fits (length bytes.now) }
-        ensures after { says self.new ≡ (if is_ok result then saying key (Some bytes.now) else says self.old) };
-
-    /// Lets its entry go.
-    fn free(&mut self)
-        ensures { says self.new ≡ None };
-}
-
-/// Whether a row is the one sought: a key's, or a free one.
-fn is_sought<R: Keyed>(row: &R, key: Option<Key>) -> bool
-    ensures { result ≡ sought key (R.Keyed.says row.now) }
-{
-    match (row.key(), key) {
-        (Some(own), Some(key)) => own.name.same(&key.name) && own.kind.same(key.kind),
-        (None, None) => true,
-        _ => false,
-    }
-}
-
-/// The index of the first row that is sought.
-pub(crate) fn find<R: Keyed>(rows: &[R], key: Option<Key>) -> Option<usize>
-    ensures value { result ≡ first (sought key) (map R.Keyed.says rows.now) 0 }
+/// The index of the first row that is sought: a key's, or a free one.
+fn find<L: Length, const ROOM: usize>(rows: &[Row<L, ROOM>], key: Option<Key>) -> Option<usize>
+    ensures value { result ≡ position_from (sought key) 0 (rows_say L.counts ROOM rows.now) }
     ensures within { IfSome result (λ i. i < length rows.now) }
 {
-    'scan: for (i, row) in rows.iter().enumerate() {
-        if is_sought(row, key) {
-            return Some(i);
-        }
-    }
-    None
+    rows.iter().position(
+        |row| -> bool
+            ensures { result ≡ sought key (row_says L.counts ROOM row.now) }
+        { row.is_of(key) },
+    )
 }
 
 /// The row that has the entry.
-pub(crate) fn row_of<R: Keyed>(rows: &[R], key: Key) -> Option<&R>
-    ensures { MatchOption result ((b : Option (List ℕ)) → look (map R.Keyed.says rows.now) (spelling key.name) key.kind b ≡ b) (λ x. (b : Option (List ℕ)) → look (map R.Keyed.says rows.now) (spelling key.name) key.kind b ≡ said (R.Keyed.says x.now)) }
+pub(crate) fn row_of<L: Length, const ROOM: usize>(
+    rows: &[Row<L, ROOM>],
+    key: Key,
+) -> Option<&Row<L, ROOM>>
+    ensures { MatchOption result ((b : Option (List ℕ)) → look (rows_say L.counts ROOM rows.now) (spelling key.name) key.kind b ≡ b) (λ x. (b : Option (List ℕ)) → look (rows_say L.counts ROOM rows.now) (spelling key.name) key.kind b ≡ said (row_says L.counts ROOM x.now)) }
 {
-    match find(rows, Some(key)) {
-        Some(i) => Some(&rows[i]),
-        None => None,
-    }
+    rows.iter().find(
+        |row| -> bool
+            ensures { result ≡ is_at (spelling key.name) key.kind (row_says L.counts ROOM row.now.now) }
+        { row.is_of(Some(key)) },
+    )
 }
 
 /// The index of the row that an entry goes to: its own, or a free one.
-pub(crate) fn place<R: Keyed>(rows: &[R], key: Key) -> Option<usize>
-    ensures value { result ≡ place_for (map R.Keyed.says rows.now) (spelling key.name) key.kind }
+pub(crate) fn place<L: Length, const ROOM: usize>(rows: &[Row<L, ROOM>], key: Key) -> Option<usize>
+    ensures value { result ≡ place_for (rows_say L.counts ROOM rows.now) (spelling key.name) key.kind }
     ensures within { IfSome result (λ i. i < length rows.now) }
 {
-    match find(rows, Some(key)) {
-        Some(i) => Some(i),
-        None => find(rows, None),
-    }
+    find(rows, Some(key)).or_else(
+        || -> Option<usize>
+            ensures value { result ≡ position_from is_free 0 (rows_say L.counts ROOM rows.entry.now) }
+            ensures within { IfSome result (λ i. i < length rows.entry.now) }
+        { find(rows, None) },
+    )
 }
 
 /// Puts bytes into the row that the entry goes to.
-pub(crate) fn write<R: Keyed>(rows: &mut [R], key: Key, bytes: &[u8]) -> Result<(), NotTaken>
-    ensures test { is_ok result ≡ (R.Keyed.fits (length bytes.now) && is_some (place_for (map R.Keyed.says rows.old) (spelling key.name) key.kind)) }
-    ensures after { map R.Keyed.says rows.new ≡ (if is_ok result then written (map R.Keyed.says rows.old) key (Some bytes.now) else map R.Keyed.says rows.old) }
+pub(crate) fn write<L: Length, const ROOM: usize>(
+    rows: &mut [Row<L, ROOM>],
+    key: Key,
+    bytes: &[u8],
+) -> Result<(), NotTaken>
+    ensures test { is_ok result ≡ (nat_le (length bytes.now) ROOM && is_some (place_for (rows_say L.counts ROOM rows.old) (spelling key.name) key.kind)) }
+    ensures after { rows_say L.counts ROOM rows.new ≡ (if is_ok result then written (rows_say L.counts ROOM rows.old) key (Some bytes.now) else rows_say L.counts ROOM rows.old) }
 {
-    match place(rows, key) {
-        Some(i) => rows[i].fill(key, bytes),
-        None => Err(NotTaken),
-    }
-}
-
-/// Frees a row that has the entry.
-fn strike_row<R: Keyed>(row: &mut R, key: Key)
-    ensures { R.Keyed.says row.new ≡ cleared (spelling key.name) key.kind (R.Keyed.says row.old) }
-{
-    if is_sought(row, Some(key)) {
-        row.free();
-    }
+    let i = place(rows, key).ok_or(NotTaken)?;
+    rows[i].fill(key, bytes)
 }
 
 /// Frees each row that has the entry.
-pub(crate) fn strike<R: Keyed>(rows: &mut [R], key: Key)
-    ensures { map R.Keyed.says rows.new ≡ struck (map R.Keyed.says rows.old) key }
+pub(crate) fn strike<L: Length, const ROOM: usize>(rows: &mut [Row<L, ROOM>], key: Key)
+    ensures { rows_say L.counts ROOM rows.new ≡ struck (rows_say L.counts ROOM rows.old) key }
 {
     'strike: for row in rows.iter_mut() {
-        strike_row(row, key);
+        row.strike(key);
     }
 }
 
 /// Frees each row.
-pub(crate) fn empty<R: Keyed>(rows: &mut [R])
-    ensures { map R.Keyed.says rows.new ≡ emptied (map R.Keyed.says rows.old) }
+pub(crate) fn empty<L: Length, const ROOM: usize>(rows: &mut [Row<L, ROOM>])
+    ensures { rows_say L.counts ROOM rows.new ≡ emptied (rows_say L.counts ROOM rows.old) }
 {
     'empty: for row in rows.iter_mut() {
         row.free();
-    }
-}
-
-/// How many bytes are held.
-pub(crate) fn count(held: Option<&[u8]>) -> Option<usize>
-    ensures { result ≡ option_map length (option_map (λ x. x.now) held.entry) }
-{
-    match held {
-        Some(bytes) => Some(bytes.len()),
-        None => None,
     }
 }
 
@@ -140,9 +84,7 @@ pub(crate) fn deliver(held: Option<&[u8]>, out: &mut [u8]) -> Result<usize, Miss
     ensures value { result ≡ answered (option_map (λ x. x.now) held.entry) (length out.old) }
     ensures after { out.new ≡ fronted (option_map (λ x. x.now) held.entry) out.old }
 {
-    let Some(bytes) = held else {
-        return Err(Miss::Absent);
-    };
+    let bytes = held.ok_or(Miss::Absent)?;
     if bytes.len() > out.len() {
         return Err(Miss::Short);
     }

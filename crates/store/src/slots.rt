@@ -1,80 +1,20 @@
 //! A store in memory that the caller lends, in places of one size.
-ghost use Rattle.std.specs.Prelude.{◌≡◌, ℕ, true, ◌&&◌, List, length, is_ok, if◌then◌else◌, Some, None, nat_le, refl};
+ghost use Rattle.std.specs.Prelude.{◌≡◌, ℕ, true, ◌&&◌, List, length, is_ok, if◌then◌else◌, Some, None, refl};
 ghost use Rattle.word.specs.Words.{spelling};
 ghost use Rattle.store.specs.declared.Change.{Change};
 ghost use Rattle.store.specs.declared.Kind.{Kind};
 ghost use Rattle.store.specs.Maps.{Writes, Keeps};
 ghost use Rattle.store.specs.Rows.{written, struck, emptied};
-ghost use Rattle.store.specs.Slotted.{slot_says, slot_rows, stood, taken, taken_fresh};
+ghost use Rattle.store.specs.Slotted.{slot_rows, stood, taken, taken_fresh};
 
-use super::rows::{Key, Keyed, count, deliver, empty, place, row_of, strike, write};
-use super::{Change, Kind, Miss, NotTaken, Store};
-use word::Word;
+use super::row::Row;
+use super::rows::{deliver, empty, place, row_of, strike, write};
+use super::{Change, Key, Miss, NotTaken, Store};
 
 const ROOM: usize = 8192;
 
-/// Whose bytes a slot holds, and how many.
-#[derive(Clone, Copy)]
-struct Head {
-    key: Key,
-    len: usize,
-}
-
 /// Room for one entry.
-#[derive(Clone, Copy)]
-pub struct Slot {
-    head: Option<Head>,
-    bytes: [u8; ROOM],
-}
-
-impl Slot {
-    /// A slot with nothing in it.
-    pub fn new() -> Slot
-        ensures { slot_says result ≡ None }
-    {
-        Slot {
-            head: None,
-            bytes: [0; ROOM],
-        }
-    }
-}
-
-impl Keyed for Slot {
-    ghost says = { slot_says };
-
-    ghost fits = { λ n. nat_le n 8192 };
-
-    fn key(&self) -> Option<Key> {
-        match self.head {
-            Some(head) => Some(head.key),
-            None => None,
-        }
-    }
-
-    fn held(&self) -> Option<&[u8]> {
-        match self.head {
-            Some(head) => {
-                let n = head.len.min(ROOM);
-                Some(&self.bytes[0..n])
-            }
-            None => None,
-        }
-    }
-
-    fn fill(&mut self, key: Key, bytes: &[u8]) -> Result<(), NotTaken> {
-        let len = bytes.len();
-        if len > ROOM {
-            return Err(NotTaken);
-        }
-        self.bytes[0..len].copy_from_slice(bytes);
-        self.head = Some(Head { key, len });
-        Ok(())
-    }
-
-    fn free(&mut self) {
-        self.head = None;
-    }
-}
+pub type Slot = Row<usize, ROOM>;
 
 /// A store in the caller's memory.
 #[derive(Drop)]
@@ -101,43 +41,39 @@ impl Store for Slots<'_> {
 
     ghost clears = { λ s n k e. refl };
 
-    fn length(&self, name: Word, kind: Kind) -> Option<usize> {
-        match row_of(self.slots, Key { name, kind }) {
-            Some(slot) => count(slot.held()),
-            None => None,
-        }
+    fn length(&self, key: Key) -> Option<usize> {
+        let slot = row_of(self.slots, key)?;
+        slot.held().map(|bytes| bytes.len())
     }
 
-    fn fetch(&self, name: Word, kind: Kind, out: &mut [u8]) -> Result<usize, Miss> {
-        match row_of(self.slots, Key { name, kind }) {
-            Some(slot) => deliver(slot.held(), out),
-            None => Err(Miss::Absent),
-        }
+    fn fetch(&self, key: Key, out: &mut [u8]) -> Result<usize, Miss> {
+        let slot = row_of(self.slots, key).ok_or(Miss::Absent)?;
+        deliver(slot.held(), out)
     }
 
-    fn takes(&self, name: Word, kind: Kind, change: Change) -> bool {
+    fn takes(&self, key: Key, change: Change) -> bool {
         match change {
-            Change::Put(len) => len <= ROOM && place(self.slots, Key { name, kind }).is_some(),
+            Change::Put(len) => len <= ROOM && place(self.slots, key).is_some(),
             Change::Remove => true,
         }
     }
 
-    fn put(&mut self, name: Word, kind: Kind, bytes: &[u8]) -> Result<(), NotTaken>
-        ensures test { is_ok result ≡ taken self.old.slots.now (spelling name) kind (Change.Put (length bytes.now)) }
-        ensures after { Writes (is_ok result) (stood self.old.slots.now) (stood self.new.slots.now) (spelling name) kind (Some bytes.now) }
+    fn put(&mut self, key: Key, bytes: &[u8]) -> Result<(), NotTaken>
+        ensures test { is_ok result ≡ taken self.old.slots.now (spelling key.name) key.kind (Change.Put (length bytes.now)) }
+        ensures after { Writes (is_ok result) (stood self.old.slots.now) (stood self.new.slots.now) (spelling key.name) key.kind (Some bytes.now) }
         ensures same { Keeps (is_ok result) (taken self.old.slots.now) (taken self.new.slots.now) }
-        ensures rows { slot_rows self.new.slots.now ≡ (if is_ok result then written (slot_rows self.old.slots.now) (record { name = name; kind = kind }) (Some bytes.now) else slot_rows self.old.slots.now) }
+        ensures rows { slot_rows self.new.slots.now ≡ (if is_ok result then written (slot_rows self.old.slots.now) key (Some bytes.now) else slot_rows self.old.slots.now) }
     {
-        write(self.slots, Key { name, kind }, bytes)
+        write(self.slots, key, bytes)
     }
 
-    fn remove(&mut self, name: Word, kind: Kind) -> Result<(), NotTaken>
+    fn remove(&mut self, key: Key) -> Result<(), NotTaken>
         ensures test { is_ok result ≡ true }
-        ensures after { Writes (is_ok result) (stood self.old.slots.now) (stood self.new.slots.now) (spelling name) kind None }
+        ensures after { Writes (is_ok result) (stood self.old.slots.now) (stood self.new.slots.now) (spelling key.name) key.kind None }
         ensures same { Keeps (is_ok result) (taken self.old.slots.now) (taken self.new.slots.now) }
-        ensures rows { slot_rows self.new.slots.now ≡ struck (slot_rows self.old.slots.now) (record { name = name; kind = kind }) }
+        ensures rows { slot_rows self.new.slots.now ≡ struck (slot_rows self.old.slots.now) key }
     {
-        strike(self.slots, Key { name, kind });
+        strike(self.slots, key);
         Ok(())
     }
 }

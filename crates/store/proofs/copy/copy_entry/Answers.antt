@@ -5,8 +5,8 @@ use Rattle.store.proofs.copy.copy_entry.Goals as goal
 
 pub returns-in_ok-put-in-Ok : goal.returns-in_ok-put-in-Ok
 returns-in_ok-put-in-Ok g c =
-    let n = spelling c.args.name in
-    let k = c.args.kind in
+    let n = spelling c.args.key.name in
+    let k = c.args.key.kind in
     let held = g.A.Store.holds c.args.from.now n k in
     let f = c.in-Ok.ensures in
     let p = c.in_ok-put-in-Ok.ensures in

@@ -1,6 +1,6 @@
-use Rattle.std.proofs.Common.{◌≡◌, ◌++◌, map, take, drop}
-use Rattle.store.specs.Rows.{emptied}
+use Rattle.std.proofs.Common.{◌≡◌, ◌++◌, take, drop}
+use Rattle.store.specs.Rows.{rows_say, emptied}
 use Rattle.store.proofs.rows.empty.Given as goal
 
 abbrev pub invariant-empty : goal.invariant-empty
-invariant-empty g l = map g.R.Keyed.says l.rows ≡ emptied (take l.row-index (map g.R.Keyed.says l.initial.rows)) ++ drop l.row-index (map g.R.Keyed.says l.initial.rows)
+invariant-empty g l = rows_say g.L.Length.counts g.row.ROOM l.rows ≡ emptied (take l.row-index (rows_say g.L.Length.counts g.row.ROOM l.initial.rows)) ++ drop l.row-index (rows_say g.L.Length.counts g.row.ROOM l.initial.rows)

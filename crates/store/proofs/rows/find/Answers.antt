@@ -1,19 +1,15 @@
-use Rattle.std.proofs.Common.{sym}
-use Rattle.store.specs.Rows.{sought}
-use Rattle.store.proofs.Firsts.{first_here, first_more, first_end}
+use Rattle.std.proofs.Common.{rules, tests, sym, ◌∙◌}
+use Rattle.std.proofs.lemmas.Iterator.{YieldsList-from_slice}
+use Rattle.std.proofs.lemmas.Iterator.Adapters.{position_from-zero}
+use Rattle.std.proofs.lemmas.Iterator.Search.{position_from_yields_List}
+use Rattle.store.specs.Rows.{row_says, sought}
+use Rattle.store.proofs.Firsts.{position_from-map}
 use Rattle.store.proofs.rows.find.Goals as goal
 
-pub returns-then-is_sought : goal.returns-then-is_sought
-returns-then-is_sought g c = record {
-  value = first_here g.R.Keyed.says (sought c.args.key) c.args.rows.now c.scan.i c.scan.invariant c.index-rows-i.result c.scan-test.true c.index-rows-i.is (sym c.if-is_sought.ensures);
-  within = c.scan-test.true;
-}
-
-pub scan-preserved : goal.scan-preserved
-scan-preserved g c = first_more g.R.Keyed.says (sought c.args.key) c.args.rows.now c.scan.i c.scan.invariant c.index-rows-i.result c.scan-test.true c.index-rows-i.is (sym c.if-is_sought.ensures)
-
-pub returns : goal.returns
-returns g c = record {
-  value = first_end g.R.Keyed.says (sought c.args.key) c.args.rows.now c.scan.i c.scan.invariant c.scan-test.false;
-  within = tt;
-}
+pub returns-clause-value : goal.returns-clause-value
+returns-clause-value g c =
+    let says = row_says g.L.Length.counts g.row.ROOM in
+    let rows = c.args.rows.now in
+    position_from_yields_List (λ r. sought c.args.key (says r)) _ _ _ c.position.ensures.ran (YieldsList-from_slice rows (cc)) (λ x b q k. search (rules, tests))
+    ∙ position_from-zero (λ r. sought c.args.key (says r)) rows
+    ∙ sym (position_from-map says (sought c.args.key) rows 0)

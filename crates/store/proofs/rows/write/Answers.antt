@@ -1,15 +1,12 @@
-use Rattle.std.proofs.Common.{is_ok, Some}
-use Rattle.store.proofs.Looks.{write_test, write_after}
+use Rattle.std.proofs.Common.{◌≡◌, ◌<◌, rules, length, is_ok, Some}
+use Rattle.word.specs.Words.{spelling}
+use Rattle.store.specs.Rows.{row_says, rows_say, place_for}
+use Rattle.store.proofs.Looks.{write_after}
 use Rattle.store.proofs.rows.write.Goals as goal
 
-pub returns-in-Some : goal.returns-in-Some
-returns-in-Some g c =
-    let f = g.R.Keyed.says in
-    let rows = c.args.rows.now in
-    let e = c.in-Some.ensures in
-    let ok = is_ok c.fill.result in
-    let v = Some c.args.bytes.now in
-    record {
-      test = write_test f rows c.args.key c.in-Some.i e.value _ _ c.fill.ensures.test;
-      after = write_after f rows c.args.key c.in-Some.i e.value c.index-rows-i.result c.fill.new.self ok v e.within c.fill.ensures.after;
-    }
+pub returns-clause-after : goal.returns-clause-after
+returns-clause-after g c =
+    let i = c.in_ok-i.i in
+    let e : Some i ≡ place_for (rows_say g.L.Length.counts g.row.ROOM c.args.rows.now) (spelling c.args.key.name) c.args.key.kind = search rules in
+    let l : i < length c.args.rows.now = search rules in
+    write_after (row_says g.L.Length.counts g.row.ROOM) c.args.rows.now c.args.key i e c.index-rows-i.result c.fill.new.self (is_ok c.fill.result) (Some c.args.bytes.now) l c.fill.ensures.after

@@ -1,23 +1,9 @@
-use Rattle.std.proofs.Common.{leb, length, is_ok, Some, refl}
-use Rattle.store.specs.declared.rows.Key.{Key}
-use Rattle.store.specs.Drafted.{draft_rows, taken_over}
-use Rattle.store.specs.Rows.{written}
-use Rattle.store.proofs.Looks.{write_writes, write_keeps}
+use Rattle.std.proofs.Common.{leb, length, is_ok, Some}
+use Rattle.store.specs.Drafted.{draft_rows}
+use Rattle.store.proofs.Looks.{write_writes}
 use Rattle.store.proofs.drafts.DraftsStore.put.Goals as goal
 
-pub returns : goal.returns
-returns g c =
-    let below = g.S.Store.holds c.args.self.now.below in
-    let rows = draft_rows c.args.self.now.rows in
-    let after = draft_rows c.write.new.rows in
-    let key : Key = record { name = c.args.name; kind = c.args.kind } in
-    let v = Some c.args.bytes.now in
-    let ok = is_ok c.write.result in
-    let h = c.write.ensures in
-    record {
-      test = h.test;
-      after = write_writes rows key below v after ok (leb (length c.args.bytes.now) 1024) h.test h.after;
-      same = write_keeps (taken_over below) rows (written rows key v) after ok h.after;
-      rows = h.after;
-      below = refl {a = c.args.self.now.below};
-    }
+pub returns-clause-after : goal.returns-clause-after
+returns-clause-after g c =
+    let bytes = c.args.bytes.now in
+    write_writes (draft_rows c.args.self.now.rows) c.args.key (g.S.Store.holds c.args.self.now.below) (Some bytes) (draft_rows c.write.new.rows) (is_ok c.write.result) (leb (length bytes) 1024) c.write.ensures.test c.write.ensures.after

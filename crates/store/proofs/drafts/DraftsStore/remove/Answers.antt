@@ -1,17 +1,15 @@
-use Rattle.std.proofs.Common.{is_ok, sym, refl}
-use Rattle.store.specs.declared.rows.Key.{Key}
+use Rattle.std.proofs.Common.{◌≡◌, rules, is_ok, None}
+use Rattle.word.specs.Words.{spelling}
 use Rattle.store.specs.Drafted.{draft_rows}
-use Rattle.store.proofs.Draftings.{strike_removes, hide_removes}
+use Rattle.store.proofs.Looks.{hide_writes, struck_writes}
 use Rattle.store.proofs.drafts.DraftsStore.remove.Goals as goal
 
-pub returns-then-is_some : goal.returns-then-is_some
-returns-then-is_some g c =
-    let key : Key = record { name = c.args.name; kind = c.args.kind } in
-    let h = hide_removes (g.S.Store.holds c.args.self.now.below) (draft_rows c.args.self.now.rows) (draft_rows c.hide.new.rows) key c.length.result c.length.ensures (is_ok c.hide.result) (sym c.if-is_some.ensures) c.hide.ensures.test c.hide.ensures.after in
-    record { test = h.test; after = h.writes; same = h.keeps; rows = h.kept; below = refl {a = c.args.self.now.below} }
+pub returns-then-is_some-clause-after : goal.returns-then-is_some-clause-after
+returns-then-is_some-clause-after g c =
+    hide_writes (draft_rows c.args.self.now.rows) c.args.key (g.S.Store.holds c.args.self.now.below) None (draft_rows c.hide.new.rows) (is_ok c.hide.result) c.hide.ensures.test c.hide.ensures.after
 
-pub returns : goal.returns
-returns g c =
-    let key : Key = record { name = c.args.name; kind = c.args.kind } in
-    let h = strike_removes (g.S.Store.holds c.args.self.now.below) (draft_rows c.args.self.now.rows) (draft_rows c.strike.new.rows) key c.length.result c.length.ensures (sym c.if-is_some.ensures) c.strike.ensures in
-    record { test = h.test; after = h.writes; same = h.keeps; rows = h.kept; below = refl {a = c.args.self.now.below} }
+pub returns-clause-after : goal.returns-clause-after
+returns-clause-after g c =
+    let below = g.S.Store.holds c.args.self.now.below in
+    let none : below (spelling c.args.key.name) c.args.key.kind ≡ None = search rules in
+    struck_writes (draft_rows c.args.self.now.rows) (draft_rows c.strike.new.rows) c.args.key below none c.strike.ensures

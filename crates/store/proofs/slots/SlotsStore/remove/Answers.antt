@@ -4,10 +4,5 @@ use Rattle.store.specs.Slotted.{slot_rows}
 use Rattle.store.proofs.Looks.{struck_writes}
 use Rattle.store.proofs.slots.SlotsStore.remove.Goals as goal
 
-pub returns : goal.returns
-returns c = record {
-  test = refl;
-  after = struck_writes (slot_rows c.args.self.now.slots.now) (slot_rows c.strike.new.rows) (record { name = c.args.name; kind = c.args.kind }) nothing refl c.strike.ensures;
-  same = tt;
-  rows = c.strike.ensures;
-}
+pub returns-clause-after : goal.returns-clause-after
+returns-clause-after c = struck_writes (slot_rows c.args.self.now.slots.now) (slot_rows c.strike.new.rows) c.args.key nothing refl c.strike.ensures
