@@ -78,7 +78,7 @@ impl<'a, K: Eq + Copy, V: Copy> KeyTable<'a, K, V> {
         ensures value { result ≡ place K.PartialEq.eq self.now.entries.now key.now }
         ensures within { IfSome result (λ i. i < length self.now.entries.now) }
     {
-        // no `or_else`: its closure would have to say the contract of `find_blank` again
+        // not by `or_else`: what its closure ensures does not reach the proof, with or without a clause
         match self.find_key(key) {
             Some(at) => Some(at),
             None => self.find_blank(),
