@@ -1,6 +1,6 @@
 -- A walk through a table's entries, and a write to it.
-use Rattle.std.proofs.Common.{◌≡◌, ℕ, zero, suc, ◌+◌, ◌<◌, ◌≤◌, Bool, List, [], ◌∷◌, ◌++◌, length, get_or, take, drop, set, replicate, None, Option, sym, refl, ap, ◌∙◌}
-use Rattle.std.proofs.lemmas.List.{drop_more, take_all, take_more_set, replicate_more}
+use Rattle.std.proofs.Common.{◌≡◌, ℕ, zero, suc, ◌+◌, ◌<◌, Bool, List, ◌∷◌, length, get_or, drop, replicate, None, Option, sym, refl, ap, ◌∙◌}
+use Rattle.std.proofs.lemmas.List.{drop_more}
 use Rattle.table.specs.declared.key_table.Entry.{Entry}
 use Rattle.table.specs.Entries.{look, held}
 
@@ -17,11 +17,8 @@ held_blanks : (K V : Type 0) (n : ℕ) → held {K = K} {V = V} (replicate n Non
 held_blanks K V zero = refl
 held_blanks K V (suc n) = held_blanks K V n
 
-pub blanked_more : {K V : Type 0} (es : List (Option (Entry K V))) (i : ℕ) → i < length es → take i es ≡ replicate i None → take (i + 1) (set es i None) ≡ replicate (i + 1) None
-blanked_more es i h inv = take_more_set es i None h ∙ ap (λ l. l ++ None ∷ []) inv ∙ replicate_more i None
+pub blanked_look : {K V : Type 0} (like : K → K → Bool) (n : ℕ) {es : List (Option (Entry K V))} (k : K) → es ≡ replicate n None → look like es k ≡ None
+blanked_look like n k e = ap (λ l. look like l k) e ∙ look_blanks like n k
 
-pub blanked_look : {K V : Type 0} (like : K → K → Bool) (es : List (Option (Entry K V))) (i : ℕ) (k : K) → length es ≤ i → take i es ≡ replicate i None → look like es k ≡ None
-blanked_look like es i k h inv = ap (λ l. look like l k) (sym (take_all i es h) ∙ inv) ∙ look_blanks like i k
-
-pub blanked_held : {K V : Type 0} (es : List (Option (Entry K V))) (i : ℕ) → length es ≤ i → take i es ≡ replicate i None → held es ≡ 0
-blanked_held {K = K} {V = V} es i h inv = ap held (sym (take_all i es h) ∙ inv) ∙ held_blanks K V i
+pub blanked_held : {K V : Type 0} (n : ℕ) {es : List (Option (Entry K V))} → es ≡ replicate n None → held es ≡ 0
+blanked_held {K = K} {V = V} n e = ap held e ∙ held_blanks K V n

@@ -36,9 +36,7 @@ impl<'a, K: Eq + Copy, V: Copy> KeyTable<'a, K, V> {
     pub fn new(entries: &'a mut [Option<Entry<K, V>>]) -> Self
         ensures { Empty K.PartialEq.eq (length entries.old) result }
     {
-        for entry in entries.iter_mut() {
-            *entry = None;
-        }
+        entries.fill(None);
         KeyTable { entries }
     }
 

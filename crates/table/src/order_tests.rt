@@ -47,13 +47,8 @@ impl<'a> Graph for Modules<'a> {
         if met >= self.most {
             return Err(Halt::Refused(Fault::TooMany(node)));
         }
-        let mut found = Vec::new(heap);
-        for r in self.needs {
-            if r.by == node {
-                found.push(r.from)?;
-            }
-        }
-        Ok(found)
+        let required = self.needs.iter().filter(|r| r.by == node);
+        Ok(required.map(|r| r.from).collect(heap)?)
     }
 
     fn cycle(&mut self, node: Word) -> Result<(), Halt<Word, Fault>> {
@@ -80,16 +75,12 @@ impl<'a> Graph for Instances<'a> {
         node: Home,
         _met: usize,
     ) -> Result<Vec<Home>, Halt<Home, Infallible>> {
-        let mut found = Vec::new(heap);
-        for r in self.needs {
-            if r.by == node.module {
-                found.push(Home {
-                    module: r.from,
-                    base: node.base.saturating_add(r.shift),
-                })?;
-            }
-        }
-        Ok(found)
+        let required = self.needs.iter().filter(|r| r.by == node.module);
+        let instances = required.map(|r| Home {
+            module: r.from,
+            base: node.base.saturating_add(r.shift),
+        });
+        Ok(instances.collect(heap)?)
     }
 
     fn cycle(&mut self, _node: Home) -> Result<(), Halt<Home, Infallible>> {

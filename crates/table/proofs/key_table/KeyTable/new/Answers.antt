@@ -1,17 +1,12 @@
-use Rattle.std.proofs.Common.{◌<◌, ◌≤◌, length, arith}
-use Rattle.table.proofs.Entries.{blanked_more, blanked_look, blanked_held}
+use Rattle.std.proofs.Common.{length, rules}
+use Rattle.table.proofs.Entries.{blanked_look, blanked_held}
 use Rattle.table.proofs.key_table.KeyTable.new.Goals as goal
-
-pub loop-entry-preserved : goal.loop-entry-preserved
-loop-entry-preserved g c =
-    let h : c.loop-entry.entry-index < length c.loop-entry.entries = omega arith in
-    blanked_more c.loop-entry.entries c.loop-entry.entry-index h c.loop-entry.invariant
 
 pub returns : goal.returns
 returns g c =
-    let h : length c.loop-entry.entries ≤ c.loop-entry.entry-index = omega arith in
+    let blank = c.fill.ensures.after (λ y h. search rules) in
     record {
-      none = λ k. blanked_look g.K.PartialEq.eq c.loop-entry.entries c.loop-entry.entry-index k h c.loop-entry.invariant;
-      count = blanked_held c.loop-entry.entries c.loop-entry.entry-index h c.loop-entry.invariant;
-      room = omega arith;
+      none = λ k. blanked_look g.K.PartialEq.eq (length c.args.entries.now) k blank;
+      count = blanked_held (length c.args.entries.now) blank;
+      room = c.fill.ensures.len;
     }
