@@ -16,7 +16,7 @@ use std::alloc::AllocError;
 use word::Word;
 
 // A kind with the name of what is defined.
-#[derive(Clone, Copy)]
+#[derive(Clone, Copy, PartialEq, Eq, Debug)]
 struct Titled {
     kind: Kind,
     name: Option<Word>,

@@ -4,7 +4,8 @@ ghost use Rattle.artefact.specs.Lines.{Ended};
 
 use std::alloc::AllocError;
 
-/// An entry of a table: one line.
+/// An entry of a table: one line. A trait of its own, since entries are types of another crate, to which `FromStr` and
+/// `Display` cannot be added here.
 pub trait Entry: Copy {
     // its line
     ghost line: { Self → List ℕ };

@@ -11,7 +11,7 @@ use text::parse_number;
 use word::{Home, Word};
 
 /// The five fields of a line.
-#[derive(Clone, Copy)]
+#[derive(Clone, Copy, PartialEq, Eq, Debug)]
 pub struct Fields<'a> {
     pub first: &'a str,
     pub second: &'a str,

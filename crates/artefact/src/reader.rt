@@ -15,6 +15,7 @@ pub enum ReadFault {
     Memory,
 }
 
+// By hand: clauses of `?` read what a conversion gives, which a derived one does not state.
 impl From<AllocError> for ReadFault {
     ghost from_gives = { λ _ r. r ≡ Memory };
 
@@ -31,9 +32,10 @@ impl<T: Drop> From<AllocFailed<T>> for ReadFault {
     }
 }
 
-// What is left of a text.
+// What is left of a text, and where the entries go that are read of it.
 #[derive(Drop)]
 struct Source<'a> {
+    heap: Global,
     rest: &'a str,
 }
 
@@ -62,10 +64,10 @@ impl Source<'_> {
     }
 
     // The entries that come next, as many as there are.
-    fn entries<E: Entry>(&mut self, heap: Global) -> Result<Vec<E>, AllocError>
+    fn entries<E: Entry>(&mut self) -> Result<Vec<E>, AllocError>
         ensures { IfOk result (λ v. Tabled E.Entry.line E.Entry.Fits E.Entry.Lawful self.old.rest.now self.new.rest.now v.items) }
     {
-        let mut entries = Vec::new(heap);
+        let mut entries = Vec::new(self.heap);
         while let Some(entry) = self.entry() {
             entries.push(entry)?;
         }
@@ -73,21 +75,21 @@ impl Source<'_> {
     }
 
     // A table with that title.
-    fn table<E: Entry>(&mut self, heap: Global, title: &str) -> Result<Vec<E>, ReadFault>
+    fn table<E: Entry>(&mut self, title: &str) -> Result<Vec<E>, ReadFault>
         ensures { Lacks 10 title.now → Section E.Entry.line E.Entry.Fits E.Entry.Lawful title.now self.old.rest.now self.new.rest.now result }
     {
         self.header(title)?;
-        Ok(self.entries(heap)?)
+        Ok(self.entries()?)
     }
 
     // The three tables.
-    fn tables(&mut self, heap: Global) -> Result<Module, ReadFault>
+    fn tables(&mut self) -> Result<Module, ReadFault>
         ensures { Tables self.old.rest.now self.new.rest.now result }
     {
         Ok(Module {
-            required: self.table(heap, "require shift")?,
-            definitions: self.table(heap, "level kind name params rows")?,
-            rows: self.table(heap, "op text home base number")?,
+            required: self.table("require shift")?,
+            definitions: self.table("level kind name params rows")?,
+            rows: self.table("op text home base number")?,
         })
     }
 }
@@ -99,8 +101,8 @@ pub fn read(heap: Global, bytes: &[u8]) -> Result<Module, ReadFault>
     let Ok(text) = std::str::from_utf8(bytes) else {
         return Err(ReadFault::NotAnArtefact);
     };
-    let mut source = Source { rest: text };
-    let module = source.tables(heap)?;
+    let mut source = Source { heap, rest: text };
+    let module = source.tables()?;
     if !source.rest.is_empty() || !module.is_whole() {
         return Err(ReadFault::NotAnArtefact);
     }

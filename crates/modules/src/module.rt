@@ -38,7 +38,7 @@ pub enum Kind {
 }
 
 impl Kind {
-    /// Its name.
+    /// Its name, which takes no memory as what `Display` prints would.
     pub fn as_str(self) -> &'static str
         ensures { result.now ≡ kind_title self }
     {

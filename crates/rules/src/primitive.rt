@@ -50,7 +50,7 @@ impl FromStr for Primitive {
 }
 
 impl Primitive {
-    /// Its name.
+    /// Its name, which takes no memory as what `Display` prints would.
     pub fn as_str(self) -> &'static str
         ensures { result.now ≡ prim_spelling self }
     {

@@ -15,6 +15,7 @@ pub enum Halt<N, R> {
     Memory,
 }
 
+// By hand: clauses of `?` read what a conversion gives, which a derived one does not state.
 impl<N, R> From<AllocError> for Halt<N, R> {
     ghost from_gives = { λ _ r. r ≡ Memory };
 
