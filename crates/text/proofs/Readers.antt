@@ -5,7 +5,7 @@ use Rattle.rules.specs.Refusals.{Refusal as PureRefusal}
 use Rattle.rules.proofs.Readings.{faults_lie_within}
 use Rattle.rules.specs.Words.{item_byte, text_home}
 use Rattle.rules.specs.Words.{Home as PureHome}
-use Rattle.rules.specs.Reading.{Read, reads, Progress, scan, finish, mark, placed, item_of, ended, read, nothing_read}
+use Rattle.rules.specs.Reading.{Read, reads, Progress, scan, finish, mark, placed, item_of, ended, read}
 use Rattle.rules.specs.Reading.{Form as PureForm}
 use Rattle.word.specs.declared.Word.{Word}
 use Rattle.word.specs.declared.home.Home.{Home}
