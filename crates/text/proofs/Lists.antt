@@ -1,11 +1,11 @@
 -- Lists of values and of data, element by element, and the lists that are built of them.
-use Rattle.std.proofs.Common.{◌≡◌, List, [], ◌∷◌, ◌++◌, length, sym, refl, ap, ◌∙◌, subst, arith}
-use Rattle.std.proofs.lemmas.List.{append-nil, append_assoc, nil_from_length}
+use Rattle.std.proofs.Common.{◌≡◌, List, [], ◌∷◌, ◌++◌, length, refl, ap, ◌∙◌, subst, arith}
+use Rattle.std.proofs.lemmas.List.{append_assoc}
 use Rattle.rules.specs.Words.{Datum, list_of}
 use Rattle.text.specs.declared.data.Value.{Value}
 use Rattle.text.specs.declared.data.Cell.{Cell}
-use Rattle.text.specs.Data.{Each, Stands, Grows, Listed}
-use Rattle.text.proofs.Means.{stands_on, grows_not, grows_by, grows_twice, pair_pushed}
+use Rattle.text.specs.Data.{Each, Stands, Grows}
+use Rattle.text.proofs.Means.{stands_on, grows_by, grows_twice, pair_pushed}
 
 -- what holds of each pair of elements goes on to hold where one relation implies the other
 pub each_on : {A B : Type 0} (R S : A → B → Type 0) → ((a : A) (b : B) → R a b → S a b) → (xs : List A) (ys : List B) → Each R xs ys → Each S xs ys

@@ -5,7 +5,7 @@ use Rattle.rules.specs.Refusals.{Refusal as PureRefusal}
 use Rattle.rules.proofs.Readings.{faults_lie_within}
 use Rattle.rules.specs.Words.{item_byte, text_home}
 use Rattle.rules.specs.Words.{Home as PureHome}
-use Rattle.rules.specs.Reading.{Read, reads, Progress, scan, finish, mark, placed, item_of, ended, read, nothing_read}
+use Rattle.rules.specs.Reading.{Read, reads, Progress, scan, finish, mark, placed, item_of, ended, read}
 use Rattle.rules.specs.Reading.{Form as PureForm}
 use Rattle.word.specs.declared.Word.{Word}
 use Rattle.word.specs.declared.home.Home.{Home}
@@ -120,12 +120,16 @@ reading_all x home bytes at t a r f =
 abbrev pub AtHome : Home → Word → Type 0
 AtHome home of = (home_of home ≡ text_home (spelling of)) × (home.«module» ≡ of)
 
-pub finished_at_home : (home : Home) (of : Word) (bytes : List ℕ) (t : Result Text ReadFault) → AtHome home of → Finished (read (home_of home) bytes) home.«module» t → Finished (read (text_home (spelling of)) bytes) of t
-finished_at_home home of bytes t (e, m) f =
-    subst (λ (w : Word). Finished (read (text_home (spelling of)) bytes) w t) m (subst (λ (h : PureHome). Finished (read h bytes) home.«module» t) e f)
+pub at_home : (home given : Home) (of : Word) → home ≡ given → home_of given ≡ text_home (spelling of) → given.«module» ≡ of → AtHome home of
+at_home home given of e h m = (ap home_of e ∙ h, ap (λ (k : Home). k.«module») e ∙ m)
 
 -- what is read as the rules say is refused within the text
-pub within_text : (of : Word) (bytes : List ℕ) (t : Result Text ReadFault) → Finished (read (text_home (spelling of)) bytes) of t → Within (length bytes) t
+within_text : (of : Word) (bytes : List ℕ) (t : Result Text ReadFault) → Finished (read (text_home (spelling of)) bytes) of t → Within (length bytes) t
 within_text of bytes (Ok t) f = tt
 within_text of bytes (Err (Refused f)) (c, at, e, g) = (at, ap (λ (r : PureRefusal). r.place) g, faults_lie_within (text_home (spelling of)) bytes c at e)
 within_text of bytes (Err Memory) f = tt
+
+pub read_at_home : (home : Home) (of : Word) (bytes : List ℕ) (t : Result Text ReadFault) → AtHome home of → Finished (read (home_of home) bytes) home.«module» t → Finished (read (text_home (spelling of)) bytes) of t × Within (length bytes) t
+read_at_home home of bytes t (e, m) f =
+    let ruled : Finished (read (text_home (spelling of)) bytes) of t = subst (λ (w : Word). Finished (read (text_home (spelling of)) bytes) w t) m (subst (λ (h : PureHome). Finished (read h bytes) home.«module» t) e f) in
+    (ruled, within_text of bytes t ruled)

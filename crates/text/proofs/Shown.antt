@@ -2,7 +2,7 @@
 use Rattle.std.proofs.Common.{◌≡◌, ℕ, ◌+◌, ◌<◌, ◌≤◌, cond, ◌⊎◌, Bor, List, [], ◌∷◌, ◌++◌, length, get_or, drop, ℤ, pos, is_ok, OnOk, Ok, Err, codes, Result, sym, refl, ap, ◌∙◌, subst, ⊎_elim, arith}
 use Rattle.std.specs.Fmt.{signed_decimal}
 use Rattle.std.specs.List.{flat_map}
-use Rattle.std.proofs.lemmas.List.{append-nil, append_assoc, drop_more, drop-drop, drop_all}
+use Rattle.std.proofs.lemmas.List.{append_assoc, drop_more, drop-drop}
 use Rattle.rules.specs.Words.{Datum, number, word, empty, pair}
 use Rattle.word.specs.declared.name.Name.{Name}
 use Rattle.text.specs.declared.data.Value.{Value}

@@ -40,19 +40,18 @@ forms_on cs es g = each_on (FormIs cs) (FormIs es) (λ f h e. (e.0, stands_on cs
 pub newest : {A : Type 0} (xs ys : List A) (x : A) → xs ≡ ys ++ x ∷ [] → reverse xs ≡ x ∷ reverse ys
 newest xs ys x e = ap reverse e ∙ reverse-append ys (x ∷ [])
 
--- z is y but for cells that were added and what is open
+-- z is y but for cells that were added, what is open, and where the form begins
 pub record Beside (y z : Tree) : Type 0 where
   pub home : z.home ≡ y.home
-  pub begun : z.begun ≡ y.begun
   pub grown : Grows (vec_items y.cells) (vec_items z.cells)
   pub forms : vec_items z.forms ≡ vec_items y.forms
 
--- what z was built to, where these lists and quotes are open in it
-pub built_beside : (y z : Tree) (p : Progress) (os : List PureOpen) → Beside y z → Opened (vec_items y.cells) (reverse (vec_items z.opened)) os → Built y p → Built z (record { opened = os; begun = p.begun; forms = p.forms })
-built_beside y z p os k o b = record {
+-- what z was built to, where these lists and quotes are open in it, and its form begins there
+built_beside : (y z : Tree) (p : Progress) (os : List PureOpen) (begun : ℕ) → Beside y z → Opened (vec_items y.cells) (reverse (vec_items z.opened)) os → z.begun ≡ begun → Built y p → Built z (record { opened = os; begun = begun; forms = p.forms })
+built_beside y z p os begun k o at b = record {
   opened = opened_on (vec_items y.cells) (vec_items z.cells) k.grown (reverse (vec_items z.opened)) os o;
-  begun = k.begun ∙ b.begun;
-  forms = subst (λ (fs : List Form). Forms (vec_items z.cells) fs (reverse p.forms)) (sym k.forms) (forms_on (vec_items y.cells) (vec_items z.cells) k.grown (vec_items y.forms) (reverse p.forms) b.forms);
+  begun = at;
+  forms = rw k.forms (forms_on (vec_items y.cells) (vec_items z.cells) k.grown (vec_items y.forms) (reverse p.forms) b.forms);
 }
 
 -- the quotes around a datum so far are closed: y has what is open around them, and w stands for the datum with them
@@ -71,8 +70,8 @@ pub settles_first : (x : Tree) (v : Value) → Settles x v x v
 settles_first x v p d b s = record { outer = p.opened; whole = d; same = refl; built = b; stands = s; home = refl }
 
 -- one more quote closes
-pub quote_closed : (x y z : Tree) (v w u : Value) → Beside y z → vec_items y.opened ≡ vec_items z.opened ++ Open.Quote ∷ [] → Quoted (vec_items y.cells) (vec_items z.cells) y.home w u → Settles x v y w → Settles x v z u
-quote_closed x y z v w u k n q f p d b s = let t = f p d b s in by t t.outer t.same t.built (subst (λ (os : List Open). Opened (vec_items y.cells) os t.outer) (newest _ _ Open.Quote n) t.built.opened)
+pub quote_closed : (x y z : Tree) (v w u : Value) → Beside y z → z.begun ≡ y.begun → vec_items y.opened ≡ vec_items z.opened ++ Open.Quote ∷ [] → Quoted (vec_items y.cells) (vec_items z.cells) y.home w u → Settles x v y w → Settles x v z u
+quote_closed x y z v w u k at n q f p d b s = let t = f p d b s in by t t.outer t.same t.built (subst (λ (os : List Open). Opened (vec_items y.cells) os t.outer) (newest _ _ Open.Quote n) t.built.opened)
   where
     by : (t : Settling x y w p d) (outer : List PureOpen) → settle (home_of x.home) p.begun p.forms p.opened d ≡ settle (home_of x.home) p.begun p.forms outer t.whole → Built y (record { opened = outer; begun = p.begun; forms = p.forms }) → Opened (vec_items y.cells) (Open.Quote ∷ reverse (vec_items z.opened)) outer → Settling x z u p d
     by t [] e b o = absurd o
@@ -81,7 +80,7 @@ quote_closed x y z v w u k n q f p d b s = let t = f p d b s in by t t.outer t.s
       outer = outer;
       whole = quote_of (home_of x.home) t.whole;
       same = e;
-      built = built_beside y z (record { opened = quoted ∷ outer; begun = p.begun; forms = p.forms }) outer k o.1 b;
+      built = built_beside y z (record { opened = quoted ∷ outer; begun = p.begun; forms = p.forms }) outer p.begun k o.1 (at ∙ b.begun) b;
       stands = subst (λ (h : Home). Stands (vec_items z.cells) u (quote_of (home_of h) t.whole)) t.home (q.each t.whole t.stands);
       home = k.home ∙ t.home;
     }
@@ -90,19 +89,19 @@ abbrev Settled : Tree → Tree → Progress → Datum → Type 0
 Settled x z p d = (q : Progress) × (reads (settle (home_of x.home) p.begun p.forms p.opened d) ≡ reads q) × Built z q × (z.home ≡ x.home)
 
 -- the datum goes into the innermost list
-pub datum_joined : (x y z : Tree) (v w : Value) (os : List Open) (vs us : Vec Value Global) → Beside y z → vec_items y.opened ≡ os ++ Open.List vs ∷ [] → vec_items z.opened ≡ os ++ Open.List us ∷ [] → vec_items us ≡ vec_items vs ++ w ∷ [] → Settles x v y w → (p : Progress) (d : Datum) → Built x p → Stands (vec_items x.cells) v d → Settled x z p d
-datum_joined x y z v w os vs us k n m i f p d b s = let t = f p d b s in by t t.outer t.same t.built (subst (λ (os : List Open). Opened (vec_items y.cells) os t.outer) (newest _ _ (Open.List vs) n) t.built.opened)
+pub datum_joined : (x y z : Tree) (v w : Value) (os : List Open) (vs us : Vec Value Global) → Beside y z → z.begun ≡ y.begun → vec_items y.opened ≡ os ++ Open.List vs ∷ [] → vec_items z.opened ≡ os ++ Open.List us ∷ [] → vec_items us ≡ vec_items vs ++ w ∷ [] → Settles x v y w → (p : Progress) (d : Datum) → Built x p → Stands (vec_items x.cells) v d → Settled x z p d
+datum_joined x y z v w os vs us k at n m i f p d b s = let t = f p d b s in by t t.outer t.same t.built (subst (λ (os : List Open). Opened (vec_items y.cells) os t.outer) (newest _ _ (Open.List vs) n) t.built.opened)
   where
     by : (t : Settling x y w p d) (outer : List PureOpen) → settle (home_of x.home) p.begun p.forms p.opened d ≡ settle (home_of x.home) p.begun p.forms outer t.whole → Built y (record { opened = outer; begun = p.begun; forms = p.forms }) → Opened (vec_items y.cells) (Open.List vs ∷ reverse os) outer → Settled x z p d
     by t [] e b o = absurd o
     by t (quoted ∷ outer) e b o = absurd o.0
     by t (bracket ds ∷ outer) e b o =
         let more : Each (Stands (vec_items y.cells)) (vec_items vs ++ w ∷ []) (reverse ds ++ t.whole ∷ []) = each_push (Stands (vec_items y.cells)) (vec_items vs) (reverse ds) w t.whole o.0 t.stands in
-        let item : Each (Stands (vec_items y.cells)) (vec_items us) (reverse (t.whole ∷ ds)) = subst (λ (xs : List Value). Each (Stands (vec_items y.cells)) xs (reverse (t.whole ∷ ds))) (sym i) (subst (λ (xs : List Datum). Each (Stands (vec_items y.cells)) (vec_items vs ++ w ∷ []) xs) (sym (reverse-cons t.whole ds)) more) in
-        let all : Opened (vec_items y.cells) (reverse (vec_items z.opened)) (bracket (t.whole ∷ ds) ∷ outer) = subst (λ (xs : List Open). Opened (vec_items y.cells) xs (bracket (t.whole ∷ ds) ∷ outer)) (sym (newest _ _ (Open.List us) m)) (item, o.1) in (
+        let item : Each (Stands (vec_items y.cells)) (vec_items us) (reverse (t.whole ∷ ds)) = rw (i, reverse-cons t.whole ds) more in
+        let all : Opened (vec_items y.cells) (reverse (vec_items z.opened)) (bracket (t.whole ∷ ds) ∷ outer) = rw (newest _ _ (Open.List us) m) (item, o.1) in (
           record { opened = bracket (t.whole ∷ ds) ∷ outer; begun = p.begun; forms = p.forms },
           ap reads e,
-          built_beside y z (record { opened = bracket ds ∷ outer; begun = p.begun; forms = p.forms }) (bracket (t.whole ∷ ds) ∷ outer) k all b,
+          built_beside y z (record { opened = bracket ds ∷ outer; begun = p.begun; forms = p.forms }) (bracket (t.whole ∷ ds) ∷ outer) p.begun k all (at ∙ b.begun) b,
           k.home ∙ t.home,
         )
 
@@ -115,13 +114,13 @@ form_added x y z v w n home begun cells opened pushed f p d b s = let t = f p d 
     by t [] e b o =
         let g : PureForm = record { offset = p.begun; datum = t.whole } in
         let more : Forms (vec_items y.cells) (vec_items y.forms ++ record { offset = y.begun; datum = w } ∷ []) (reverse p.forms ++ g ∷ []) = each_push (FormIs (vec_items y.cells)) (vec_items y.forms) (reverse p.forms) (record { offset = y.begun; datum = w }) g b.forms (b.begun, t.stands) in
-        let all : Forms (vec_items y.cells) (vec_items z.forms) (reverse (g ∷ p.forms)) = subst (λ (fs : List Form). Forms (vec_items y.cells) fs (reverse (g ∷ p.forms))) (sym pushed) (subst (λ (gs : List PureForm). Forms (vec_items y.cells) (vec_items y.forms ++ record { offset = y.begun; datum = w } ∷ []) gs) (sym (reverse-cons g p.forms)) more) in (
+        let all : Forms (vec_items y.cells) (vec_items z.forms) (reverse (g ∷ p.forms)) = rw (pushed, reverse-cons g p.forms) more in (
           record { opened = []; begun = p.begun; forms = g ∷ p.forms },
           ap reads e,
           record {
-            opened = subst (λ (os : List Open). Opened (vec_items z.cells) (reverse os) []) (sym opened) tt;
+            opened = rw opened tt;
             begun = begun ∙ b.begun;
-            forms = subst (λ (cs : List Cell). Forms cs (vec_items z.forms) (reverse (g ∷ p.forms))) (sym cells) all;
+            forms = rw cells all;
           },
           home ∙ t.home,
         )
@@ -134,35 +133,21 @@ start_is : (os : List PureOpen) (n begun at : ℕ) → n ≡ length os → cond 
 start_is [] n begun at e = ap (λ n. cond (eqb n 0) at begun) e
 start_is (o ∷ os) n begun at e = cond-false (eqb n 0) at begun (ne_eqb n 0 (λ z. omega arith))
 
--- an item begins the form where no list or quote is open
-pub begun_at : (x y : Tree) (at : ℕ) → y.begun ≡ cond (eqb (length (vec_items x.opened)) 0) at x.begun → vec_items y.opened ≡ vec_items x.opened → vec_items y.cells ≡ vec_items x.cells → vec_items y.forms ≡ vec_items x.forms → (p : Progress) → Built x p → Built y (record { opened = p.opened; begun = start p.opened p.begun at; forms = p.forms })
-begun_at x y at e opened cells forms p b = record {
-  opened = subst (λ (cs : List Cell). Opened cs (reverse (vec_items y.opened)) p.opened) (sym cells) (subst (λ (os : List Open). Opened (vec_items x.cells) (reverse os) p.opened) (sym opened) b.opened);
-  begun = e ∙ ap (λ n. cond (eqb (length (vec_items x.opened)) 0) at n) b.begun ∙ start_is p.opened (length (vec_items x.opened)) p.begun at (opened_count x p b);
-  forms = subst (λ (cs : List Cell). Forms cs (vec_items y.forms) (reverse p.forms)) (sym cells) (subst (λ (fs : List Form). Forms (vec_items x.cells) fs (reverse p.forms)) (sym forms) b.forms);
-}
+-- where the form begins that goes on at `at`
+begun_is : (x : Tree) (at begun : ℕ) (p : Progress) → begun ≡ cond (eqb (length (vec_items x.opened)) 0) at x.begun → Built x p → begun ≡ start p.opened p.begun at
+begun_is x at begun p e b = e ∙ ap (λ n. cond (eqb (length (vec_items x.opened)) 0) at n) b.begun ∙ start_is p.opened (length (vec_items x.opened)) p.begun at (opened_count x p b)
 
--- y is x after a list or a quote was opened at an offset
-pub record OpenedAt (x y : Tree) (o : Open) (at : ℕ) : Type 0 where
-  pub room : length (vec_items x.opened) < 64
-  pub home : y.home ≡ x.home
-  pub begun : y.begun ≡ cond (eqb (length (vec_items x.opened)) 0) at x.begun
-  pub opened : vec_items y.opened ≡ vec_items x.opened ++ o ∷ []
-  pub cells : vec_items y.cells ≡ vec_items x.cells
-  pub forms : vec_items y.forms ≡ vec_items x.forms
+-- y is x after an item began in it
+pub item_begun : (x y : Tree) (at : ℕ) → Beside x y → y.begun ≡ cond (eqb (length (vec_items x.opened)) 0) at x.begun → vec_items y.opened ≡ vec_items x.opened → (p : Progress) → Built x p → Built y (record { opened = p.opened; begun = start p.opened p.begun at; forms = p.forms })
+item_begun x y at k e opened p b = built_beside x y p p.opened (start p.opened p.begun at) k (rw opened b.opened) (begun_is x at y.begun p e b) b
 
-pub opened_nests : (x y : Tree) (o : Open) (at : ℕ) → OpenedAt x y o at → (q : PureOpen) → OpenIs (vec_items x.cells) o q → (p : Progress) → Built x p → Went (nest p at q) x y (Ok tt)
-opened_nests x y o at s q i p b = (
+-- y is x after a list or a quote was opened in it
+pub opened_nests : (x y : Tree) (o : Open) (at : ℕ) → length (vec_items x.opened) < 64 → Beside x y → y.begun ≡ cond (eqb (length (vec_items x.opened)) 0) at x.begun → vec_items y.opened ≡ vec_items x.opened ++ o ∷ [] → (q : PureOpen) → OpenIs (vec_items x.cells) o q → (p : Progress) → Built x p → Went (nest p at q) x y (Ok tt)
+opened_nests x y o at room k e pushed q i p b = (
   record { opened = q ∷ p.opened; begun = start p.opened p.begun at; forms = p.forms },
-  cond-false (leb 64 (length p.opened)) _ _ (lt-leb 64 (length p.opened) (omega (arith, s.room, opened_count x p b))),
-  record {
-    opened =
-        let held : Opened (vec_items x.cells) (o ∷ reverse (vec_items x.opened)) (q ∷ p.opened) = (i, b.opened) in
-        subst (λ (cs : List Cell). Opened cs (reverse (vec_items y.opened)) (q ∷ p.opened)) (sym s.cells) (subst (λ (os : List Open). Opened (vec_items x.cells) os (q ∷ p.opened)) (sym (newest _ _ o s.opened)) held);
-    begun = s.begun ∙ ap (λ n. cond (eqb (length (vec_items x.opened)) 0) at n) b.begun ∙ start_is p.opened (length (vec_items x.opened)) p.begun at (opened_count x p b);
-    forms = subst (λ (cs : List Cell). Forms cs (vec_items y.forms) (reverse p.forms)) (sym s.cells) (subst (λ (fs : List Form). Forms (vec_items x.cells) fs (reverse p.forms)) (sym s.forms) b.forms);
-  },
-  s.home,
+  cond-false (leb 64 (length p.opened)) _ _ (lt-leb 64 (length p.opened) (omega (arith, opened_count x p b))),
+  built_beside x y p (q ∷ p.opened) (start p.opened p.begun at) k (rw (newest _ _ o pushed) (i, b.opened)) (begun_is x at y.begun p e b) b,
+  k.home,
 )
 
 -- where 64 are open, no more are
@@ -175,14 +160,14 @@ went_from x z y o (Ok u) e w = (w.0, w.1, w.2, w.3 ∙ e)
 went_from x z y o (Err f) e w = subst (λ (h : Home). RefusedAs o h.«module» f) e w
 
 -- a list closes, and what is added after it is as the rules say
-pub list_closed : (x z y : Tree) (at : ℕ) (vs : Vec Value Global) (list : Value) (r : Result (Unit {0}) ReadFault) → Beside x z → vec_items x.opened ≡ vec_items z.opened ++ Open.List vs ∷ [] → Listed (vec_items x.cells) (vec_items z.cells) (vec_items vs) list → ((d : Datum) → Stands (vec_items z.cells) list d → Steps (λ h p. reads (settle h p.begun p.forms p.opened d)) z y r) → Steps (λ h p. close h at p.begun p.forms p.opened) x y r
-list_closed x z y at vs list r k n l add p b = by p.opened b (subst (λ (os : List Open). Opened (vec_items x.cells) os p.opened) (newest _ _ (Open.List vs) n) b.opened)
+pub list_closed : (x z y : Tree) (at : ℕ) (vs : Vec Value Global) (list : Value) (r : Result (Unit {0}) ReadFault) → Beside x z → z.begun ≡ x.begun → vec_items x.opened ≡ vec_items z.opened ++ Open.List vs ∷ [] → Listed (vec_items x.cells) (vec_items z.cells) (vec_items vs) list → ((d : Datum) → Stands (vec_items z.cells) list d → Steps (λ h p. reads (settle h p.begun p.forms p.opened d)) z y r) → Steps (λ h p. close h at p.begun p.forms p.opened) x y r
+list_closed x z y at vs list r k e n l add p b = by p.opened b (subst (λ (os : List Open). Opened (vec_items x.cells) os p.opened) (newest _ _ (Open.List vs) n) b.opened)
   where
     by : (os : List PureOpen) → Built x p → Opened (vec_items x.cells) (Open.List vs ∷ reverse (vec_items z.opened)) os → Went (close (home_of x.home) at p.begun p.forms os) x y r
     by [] b o = absurd o
     by (quoted ∷ os) b o = absurd o.0
     by (bracket ds ∷ os) b o =
-        went_from x z y (reads (settle (home_of x.home) p.begun p.forms os (list_of (reverse ds)))) r k.home (rw (← k.home) (add (list_of (reverse ds)) (l.each (reverse ds) o.0) (record { opened = os; begun = p.begun; forms = p.forms }) (built_beside x z p os k o.1 b)))
+        went_from x z y (reads (settle (home_of x.home) p.begun p.forms os (list_of (reverse ds)))) r k.home (rw (← k.home) (add (list_of (reverse ds)) (l.each (reverse ds) o.0) (record { opened = os; begun = p.begun; forms = p.forms }) (built_beside x z p os p.begun k o.1 (e ∙ b.begun) b)))
 
 -- a refusal of one reading is a refusal of another
 pub refused_through : {A B : Type 0} (o : Read A) (u : Read B) (m : Word) → ((c : Cause) (k : ℕ) → o ≡ refused c k → u ≡ refused c k) → (f : ReadFault) → RefusedAs o m f → RefusedAs u m f

@@ -15,7 +15,8 @@ pub enum Value {
     Pair(usize),
 }
 
-/// A pair. What it holds stands in earlier cells.
+/// A pair. What it holds stands in earlier cells. Values name pairs by their cells and own none in boxes, since a world has a
+/// fixed number of cells for them, lent to it, and its values are plain ones that are copied and share their pairs.
 #[derive(Clone, Copy, PartialEq, Eq, Debug)]
 pub struct Cell {
     pub head: Value,

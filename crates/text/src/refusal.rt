@@ -3,7 +3,7 @@ ghost use Rattle.std.specs.Prelude.{◌≡◌};
 ghost use Rattle.rules.specs.Refusals.{bare, placed};
 ghost use Rattle.text.specs.declared.refusal.ReadFault.TheVariants.{Memory};
 ghost use Rattle.word.specs.Words.{spelling};
-ghost use Rattle.text.specs.Refusals.{refusal_of};
+ghost use Rattle.text.specs.Refusals.{refusal_of, refusal_printed};
 
 use rules::Cause;
 use std::alloc::{AllocError, AllocFailed};
@@ -51,6 +51,8 @@ impl Refusal {
 // As the console answers it: `refused`, the number, and the parts that apply. A fault of rows that ran for a module has
 // a row for its place, and any other an offset.
 impl fmt::Display for Refusal {
+    ghost output = { refusal_printed };
+
     fn fmt<W: fmt::Write>(&self, f: &mut fmt::Formatter<W>) -> fmt::Result {
         write!(f, "refused {}", self.cause.number())?;
         if let Some(word) = self.working_for {
