@@ -1,2 +1,4 @@
-mod Lines
-mod Modules
+mod Puts
+mod Tables
+mod Artefacts
+mod Pages

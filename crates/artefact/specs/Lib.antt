@@ -1,2 +1,11 @@
-pub mod Says
-pub mod Limits
+pub mod Lines
+pub mod Fields
+pub mod Tables
+pub mod Entries
+pub mod Picks
+pub mod Numbers
+pub mod Cuts
+pub mod LinesLemmas
+pub mod Rows
+pub mod Heads
+pub mod Columns

@@ -1,8 +1,19 @@
-//! Expanded modules, and the bytes that record them.
+//! The bytes that record expanded modules: an artefact is three tables of lines.
 
 #![tactic(auto)]
 
-mod module;
+mod definition;
+mod entry;
+mod fields;
+mod line;
+mod reader;
+mod require;
+mod row;
 mod writer;
 
-pub use module::{Definition, Kind, Module, Require, Row};
+pub use modules::{Definition, Kind, Module, Require, Row};
+pub use reader::{ReadFault, read};
+pub use writer::{append, write, write_front};
+
+#[cfg(test)]
+mod tests;

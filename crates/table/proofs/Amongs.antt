@@ -1,23 +1,15 @@
 -- Whether a node is one of a list's.
-use Rattle.std.proofs.Common.{◌≡◌, ℕ, ◌+◌, ◌<◌, ◌≤◌, Bool, true, false, ◌||◌, ◌⊎◌, List, [], ◌∷◌, ◌++◌, length, drop, sym, refl, ap, ◌∙◌, inl, inr, ⊎_elim, arith, length-append}
-use Rattle.std.proofs.lemmas.List.{drop_all}
+use Rattle.std.proofs.Common.{◌≡◌, Bool, true, false, ◌||◌, ◌⊎◌, List, [], ◌∷◌, ◌++◌, length, sym, refl, ap, ◌∙◌, inl, inr, ⊎_elim, arith, length-append}
 use Rattle.std.proofs.lemmas.Bool.{or_cases, or_parts, or_from, or_left, or_right, false≢true}
 use Rattle.table.specs.Graphs.{Once, SuccessorsFirst}
 use Rattle.table.specs.Order.{among}
-use Rattle.table.specs.Sameness.{Equivalence}
-use Rattle.table.proofs.Samenesses.{shared}
+use Rattle.std.specs.Cmp.{IsEquivalence}
+use Rattle.std.specs.List.{list_any}
 
--- a search
-
-module _ {N : Type 0} (like : N → N → Bool) (n : N) (ms : List N) (i : ℕ) where
-  pub among_hit : (m : N) → drop i ms ≡ m ∷ drop (i + 1) ms → like n m ≡ true → among like n (drop i ms) ≡ among like n ms → true ≡ among like n ms
-  among_hit m d t inv = sym (sym inv ∙ ap (among like n) d ∙ ap (λ b. b || among like n (drop (i + 1) ms)) t)
-
-  pub among_miss : (m : N) → drop i ms ≡ m ∷ drop (i + 1) ms → like n m ≡ false → among like n (drop i ms) ≡ among like n ms → among like n (drop (i + 1) ms) ≡ among like n ms
-  among_miss m d t inv = sym (ap (λ b. b || among like n (drop (i + 1) ms)) t) ∙ sym (ap (among like n) d) ∙ inv
-
-  pub among_end : length ms ≤ i → among like n (drop i ms) ≡ among like n ms → false ≡ among like n ms
-  among_end h inv = sym (ap (among like n) (drop_all i ms h)) ∙ inv
+-- what a search of the list by `==` answers
+pub among_any : {N : Type 0} {like : N → N → Bool} (same : IsEquivalence like) (n : N) (ms : List N) → list_any (λ m. like m n) ms ≡ among like n ms
+among_any same n [] = refl
+among_any {like = like} same n (m ∷ ms) = ap (λ b. b || list_any (λ m. like m n) ms) (same.symm m n) ∙ ap (λ b. like n m || b) (among_any same n ms)
 
 -- one more at the end
 
@@ -42,15 +34,15 @@ module _ {N : Type 0} (like : N → N → Bool) where
   out_push x n [] h e = or_from _ _ e refl
   out_push x n (y ∷ xs) h e = let q = or_parts _ _ h in or_from _ _ q.0 (out_push x n xs q.1 e)
 
-  module _ (same : Equivalence like) where
+  module _ (same : IsEquivalence like) where
     -- nodes that are the same are both there or both not
     pub among_same : (x y : N) (xs : List N) → like x y ≡ true → among like x xs ≡ among like y xs
     among_same x y [] h = refl
-    among_same x y (z ∷ xs) h = ap (λ b. b || among like x xs) (shared same x y z h) ∙ ap (λ b. like y z || b) (among_same x y xs h)
+    among_same x y (z ∷ xs) h = ap (λ b. b || among like x xs) (same.congr x y z h) ∙ ap (λ b. like y z || b) (among_same x y xs h)
 
     pub once_push : (n : N) (xs : List N) → Once like xs → among like n xs ≡ false → Once like (xs ++ (n ∷ []))
     once_push n [] o h = (refl, tt)
-    once_push n (x ∷ xs) o h = let q = or_parts _ _ h in (out_push x n xs o.0 (same.symmetric x n ∙ q.0), once_push n xs o.1 q.1)
+    once_push n (x ∷ xs) o h = let q = or_parts _ _ h in (out_push x n xs o.0 (same.symm x n ∙ q.0), once_push n xs o.1 q.1)
 
 -- a list with one more at the end, cut at a node: at that one, or before it
 snoc_cut : {N : Type 0} (xs : List N) (n : N) (front : List N) (m : N) (rest : List N) → xs ++ (n ∷ []) ≡ front ++ (m ∷ rest) → ((xs ≡ front) × (n ≡ m)) ⊎ ((r : List N) × (xs ≡ front ++ (m ∷ r)))

@@ -3,5 +3,4 @@ pub mod Entries
 pub mod Orders
 pub mod Picked
 pub mod Places
-pub mod Samenesses
 pub mod Walks

@@ -1,9 +1,9 @@
 -- The order of the definition has each node once, all that the root reaches and no other, successors first.
-use Rattle.std.proofs.Common.{◌≡◌, ℕ, zero, suc, Bool, true, false, cond, ◌⊎◌, List, [], ◌∷◌, ◌++◌, length, Some, None, Ok, Err, Option, Result, sym, refl, ap, ◌∙◌, subst, inl, inr, ⊎_elim, arith, length-append}
+use Rattle.std.proofs.Common.{◌≡◌, ℕ, zero, suc, Bool, true, false, cond, ◌⊎◌, List, [], ◌∷◌, length, Some, None, Ok, Err, Option, Result, sym, refl, ap, ◌∙◌, subst, inl, inr, ⊎_elim, arith, length-append}
 use Rattle.std.proofs.lemmas.Bool.{or_cases, or_left, or_right, false≢true}
 use Rattle.table.specs.Graphs.{Steady, Reaches, at_once, by_way, Acyclic, Reachable, Once, SuccessorsFirst, RequiredFirst}
-use Rattle.table.specs.Order.{Plan, Stop, Walked, Follows, nothing_met, among, after, unless, entered, done_with, along, opened, through, meet, step, walk, order}
-use Rattle.table.specs.Sameness.{Equivalence}
+use Rattle.table.specs.Order.{Plan, Stop, Walked, Follows, nothing_met, among, after, unless, entered, done_with, along, opened, through, meet, step, walk}
+use Rattle.std.specs.Cmp.{IsEquivalence}
 use Rattle.table.proofs.Amongs.{in_or_out, in_left, in_last, in_push, out_push, among_same, once_push, first_push}
 
 -- what came of a part
@@ -72,22 +72,22 @@ abbrev Holds : {N R : Type 0} → (N → N → Bool) → (N → List N) → N �
 Holds {N = N} like next root go = (n : N) (k j : Walked N) → Sound like next root k → Asked like next root n k → go n k ≡ Ok j → Followed like next root k j × (among like n j.met ≡ true)
 
 -- one node after another
-along_holds : {N R : Type 0} (like : N → N → Bool) (same : Equivalence like) (next : N → List N) (root : N) (go : Follows N R) → Holds like next root go → (ns : List N) (k j : Walked N) → Sound like next root k → ((s : N) → among like s ns ≡ true → Asked like next root s k) → along go ns k ≡ Ok j → Followed like next root k j × ((s : N) → among like s ns ≡ true → among like s j.met ≡ true)
+along_holds : {N R : Type 0} (like : N → N → Bool) (same : IsEquivalence like) (next : N → List N) (root : N) (go : Follows N R) → Holds like next root go → (ns : List N) (k j : Walked N) → Sound like next root k → ((s : N) → among like s ns ≡ true → Asked like next root s k) → along go ns k ≡ Ok j → Followed like next root k j × ((s : N) → among like s ns ≡ true → among like s j.met ≡ true)
 along_holds like same next root go holds [] k j s a e =
     let is = same_ok k j e in
     subst (λ (i : Walked _). Followed like next root k i × ((x : _) → among like x [] ≡ true → among like x i.met ≡ true)) is (record { sound = s; grown = grown_same like k }, λ x h. absurd (false≢true h))
 along_holds like same next root go holds (n ∷ ns) k j s a e =
     let o = after_ok (go n k) (along go ns) j e in
-    let f = holds n k o.0 s (a n (or_left _ _ (same.reflexive n))) o.1 in
+    let f = holds n k o.0 s (a n (or_left _ _ (same.refl n))) o.1 in
     let g = f.0.grown in
     let r = along_holds like same next root go holds ns o.0 j f.0.sound (λ x h. let b = a x (or_right _ _ h) in record { reachable = b.reachable; below = λ st y m u. let w = open_before like k o.0 g y m u in b.below st y w.0 w.1 }) o.2 in (
       record { sound = r.0.sound; grown = grown_on like k o.0 j g r.0.grown },
       λ x h. ⊎_elim (λ t. r.0.grown.met x (among_same like same x n o.0.met t ∙ f.1)) (r.1 x) (or_cases _ _ h),
     )
 
-module _ {N : Type 0} (like : N → N → Bool) (same : Equivalence like) (next : N → List N) (root n : N) where
+module _ {N : Type 0} (like : N → N → Bool) (same : IsEquivalence like) (next : N → List N) (root n : N) where
   reach_same : (x : N) → like x n ≡ true → Reachable like next root n → Reachable like next root x
-  reach_same x t (inl e) = inl (same.transitive x n root t e)
+  reach_same x t (inl e) = inl (same.congr x n root t ∙ e)
   reach_same x t (inr r) = inr (by_last r)
     where
       by_last : Reaches like next root n → Reaches like next root x
@@ -113,7 +113,7 @@ module _ {N : Type 0} (like : N → N → Bool) (same : Equivalence like) (next 
 
   module _ (k j : Walked N) (a : Asked like next root n k) (not-ended : among like n k.ended ≡ false) (not-met : among like n k.met ≡ false) (f : Followed like next root (entered n k) j) (all : (y : N) → among like y (next n) ≡ true → among like y j.met ≡ true) where
     in_met : among like n (entered n k).met ≡ true
-    in_met = in_last like n n k.met (same.reflexive n)
+    in_met = in_last like n n k.met (same.refl n)
 
     is_met : among like n j.met ≡ true
     is_met = f.grown.met n in_met
@@ -122,7 +122,7 @@ module _ {N : Type 0} (like : N → N → Bool) (same : Equivalence like) (next 
     no_way : Steady like next → Acyclic like next → (m : N) → among like m (next n) ≡ true → among like m j.ended ≡ false → ⊥
     no_way st acyclic m e o =
         let w = open_before like (entered n k) j f.grown m (all m e) o in
-        ⊎_elim (λ h. acyclic n (joined n m (at_once m e) (a.below st m h w.1))) (λ t. acyclic n (at_once n (among_same like same n m (next n) (same.symmetric n m ∙ t) ∙ e))) (in_push like m n k.met w.0)
+        ⊎_elim (λ h. acyclic n (joined n m (at_once m e) (a.below st m h w.1))) (λ t. acyclic n (at_once n (among_same like same n m (next n) (same.symm n m ∙ t) ∙ e))) (in_push like m n k.met w.0)
 
     done_sound : Sound like next root (done_with n j)
     done_sound = record {
@@ -141,7 +141,7 @@ module _ {N : Type 0} (like : N → N → Bool) (same : Equivalence like) (next 
       new_ended = λ x h. ⊎_elim (λ e. inl (in_left like x n j.ended e)) (λ m. ⊎_elim inr (λ t. inl (in_last like x n j.ended t)) (in_push like x n k.met m)) (f.grown.new_ended x h);
     }
 
-module _ {N R : Type 0} (like : N → N → Bool) (same : Equivalence like) (p : Plan N R) (root : N) where
+module _ {N R : Type 0} (like : N → N → Bool) (same : IsEquivalence like) (p : Plan N R) (root : N) where
   -- a node that is met first
   meet_holds : (go : Follows N R) → Holds like p.successors root go → (n : N) (k j : Walked N) → Sound like p.successors root k → Asked like p.successors root n k → among like n k.ended ≡ false → among like n k.met ≡ false → meet p go n k ≡ Ok j → Followed like p.successors root k j × (among like n j.met ≡ true)
   meet_holds go holds n k j s a not-ended not-met e =
@@ -182,7 +182,7 @@ module _ {N R : Type 0} (like : N → N → Bool) (same : Equivalence like) (p :
 
   module _ (depth : ℕ) (k : Walked N) (e : walk like p depth root nothing_met ≡ Ok k) where
     whole : Followed like p.successors root nothing_met k × (among like root k.met ≡ true)
-    whole = walk_holds depth root nothing_met k start_sound (record { reachable = λ st. inl (same.reflexive root); below = λ st x h u. absurd (false≢true h) }) e
+    whole = walk_holds depth root nothing_met k start_sound (record { reachable = λ st. inl (same.refl root); below = λ st x h u. absurd (false≢true h) }) e
 
     all_end : (x : N) → among like x k.met ≡ true → among like x k.ended ≡ true
     all_end x h = ⊎_elim (λ i. i) (λ i. absurd (false≢true i)) (whole.0.grown.new_ended x h)

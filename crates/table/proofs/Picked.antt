@@ -1,9 +1,9 @@
 -- A loop that picks some of a list's elements, and a part of each; and successors that are not refused.
-use Rattle.std.proofs.Common.{◌≡◌, ℕ, ◌+◌, ◌<◌, ◌≤◌, Bool, true, false, cond, leb, List, [], ◌∷◌, ◌++◌, map, length, get_or, take, Some, None, Ok, filter, Option, sym, refl, ap, ◌∙◌, append-nil, arith, rules}
+use Rattle.std.proofs.Common.{◌≡◌, ℕ, ◌+◌, ◌<◌, ◌≤◌, Bool, true, false, cond, leb, List, [], ◌∷◌, ◌++◌, map, length, get_or, take, Some, None, Ok, filter, sym, ap, ◌∙◌, append-nil, arith, rules}
 use mathlib.Core.List.{map-append}
 use Rattle.std.proofs.lemmas.List.Elements.{filter_more}
 use Rattle.std.proofs.lemmas.List.{take_all}
-use Rattle.table.specs.Order.{Stop, unless}
+use Rattle.table.specs.Order.{unless}
 use Rattle.table.specs.Outcomes.{Gave}
 
 module _ {X Y : Type 0} (p : X → Bool) (f : X → Y) (xs : List X) (i : ℕ) (d : X) (ys : List Y) where

@@ -4,8 +4,8 @@ use Rattle.std.proofs.lemmas.List.{drop_all}
 use Rattle.std.proofs.lemmas.Result.{err_from_is_err_and}
 use Rattle.table.specs.declared.order.Halt.{Halt}
 use Rattle.table.specs.declared.order.Halt.TheVariants.{Refused, TooDeep, Memory}
-use Rattle.table.specs.Order.{Plan, Stop, refuses, too_deep, Walked, Follows, nothing_met, among, after, unless, entered, done_with, along, opened, through, meet, step, walk, order}
-use Rattle.table.specs.Outcomes.{Stopped, NoMemory, Gave, Passed}
+use Rattle.table.specs.Order.{Plan, Stop, refuses, too_deep, Walked, Follows, nothing_met, among, after, unless, done_with, along, opened, through, meet, step, walk, order}
+use Rattle.table.specs.Outcomes.{Gave, Passed}
 use Rattle.table.proofs.Entries.{at_item}
 
 -- outcomes

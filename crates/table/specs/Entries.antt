@@ -1,37 +1,41 @@
 -- The entries of a table, and where in them a key stands. Assumes nothing.
-use Rattle.std.specs.Prelude.{ℕ, suc, Bool, true, false, cond, List, [], ◌∷◌, length, Some, None, Option, nat_lt}
+use Rattle.std.specs.Prelude.{ℕ, suc, Bool, false, cond, List, [], ◌∷◌, Some, None, Option, position}
+use Rattle.std.specs.Option.{is_none}
 use Rattle.table.specs.declared.key_table.Entry.{Entry}
-use Rattle.table.specs.declared.key_table.Entry.TheVariants.{Blank, Held}
 
-abbrev pub is_blank : {K V : Type 0} → Entry K V → Bool
-is_blank Blank = true
-is_blank (Held q v) = false
-
--- the index of the first blank entry, or the length
-abbrev pub first_blank : {K V : Type 0} → List (Entry K V) → ℕ
+-- the index of the first blank place, or the length
+abbrev pub first_blank : {K V : Type 0} → List (Option (Entry K V)) → ℕ
 first_blank [] = 0
-first_blank (Blank ∷ es) = 0
-first_blank (Held q v ∷ es) = suc (first_blank es)
+first_blank (None ∷ es) = 0
+first_blank (Some e ∷ es) = suc (first_blank es)
 
--- how many entries hold a key
-abbrev pub held : {K V : Type 0} → List (Entry K V) → ℕ
+-- how many places hold a key
+abbrev pub held : {K V : Type 0} → List (Option (Entry K V)) → ℕ
 held [] = 0
-held (Blank ∷ es) = held es
-held (Held q v ∷ es) = suc (held es)
+held (None ∷ es) = held es
+held (Some e ∷ es) = suc (held es)
+
+abbrev pub or_else : {X : Type 0} → Option X → Option X → Option X
+or_else (Some x) o = Some x
+or_else None o = o
 
 module _ {K V : Type 0} (like : K → K → Bool) where
+  abbrev pub stands : K → Option (Entry K V) → Bool
+  stands k None = false
+  stands k (Some e) = like e.key k
+
   -- the value at a key: that of the first entry whose key is like it
-  abbrev pub look : List (Entry K V) → K → Option V
+  abbrev pub look : List (Option (Entry K V)) → K → Option V
   look [] k = None
-  look (Blank ∷ es) k = look es k
-  look (Held q v ∷ es) k = cond (like q k) (Some v) (look es k)
+  look (None ∷ es) k = look es k
+  look (Some e ∷ es) k = cond (like e.key k) (Some e.value) (look es k)
 
   -- the index of that entry, or the length
-  abbrev pub find : List (Entry K V) → K → ℕ
+  abbrev pub find : List (Option (Entry K V)) → K → ℕ
   find [] k = 0
-  find (Blank ∷ es) k = suc (find es k)
-  find (Held q v ∷ es) k = cond (like q k) 0 (suc (find es k))
+  find (None ∷ es) k = suc (find es k)
+  find (Some e ∷ es) k = cond (like e.key k) 0 (suc (find es k))
 
-  -- where a value for a key is written: where the key stands, else in a blank entry, else past the end
-  abbrev pub place : List (Entry K V) → K → ℕ
-  place es k = cond (nat_lt (find es k) (length es)) (find es k) (first_blank es)
+  -- where a value for a key is written: where the key stands, else in the first blank place, if there is one
+  abbrev pub place : List (Option (Entry K V)) → K → Option ℕ
+  place es k = or_else (position (stands k) es) (position is_none es)

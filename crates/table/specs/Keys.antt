@@ -1,14 +1,9 @@
 -- The keys of bindings and of variables. Assumes nothing.
 use Rattle.std.specs.Prelude.{Bool, ◌&&◌, ◌==◌}
-use Rattle.std.specs.Str.{bytes_eq}
 use Rattle.rules.specs.Evaluate.{Slot, same_slot}
-use Rattle.word.specs.declared.Word.{Word}
-use Rattle.word.specs.Words.{spelling, home_of}
-use Rattle.table.specs.declared.keys.BoundKey.{BoundKey}
-use Rattle.table.specs.declared.keys.VariableKey.{VariableKey}
-
-abbrev pub same_spelling : Word → Word → Bool
-same_spelling a b = bytes_eq (spelling a) (spelling b)
+use Rattle.word.specs.Words.{spelling, home_of, same_spelling}
+use Rattle.table.specs.declared.bound_key.BoundKey.{BoundKey}
+use Rattle.table.specs.declared.variable_key.VariableKey.{VariableKey}
 
 -- a name is bound once at a level
 abbrev pub same_bound : BoundKey → BoundKey → Bool

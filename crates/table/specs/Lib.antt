@@ -4,5 +4,3 @@ pub mod Keys
 pub mod Maps
 pub mod Order
 pub mod Outcomes
-pub mod Sameness
-pub mod Equals

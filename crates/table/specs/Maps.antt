@@ -1,6 +1,5 @@
 -- A table as a map from keys to values, with a count of its keys and room for so many. Assumes nothing.
-use Rattle.std.specs.Prelude.{◌≡◌, ℕ, ◌+◌, ◌<◌, Bool, cond, List, length, is_some, Some, None, Option}
-use Rattle.table.specs.declared.key_table.Entry.{Entry}
+use Rattle.std.specs.Prelude.{◌≡◌, ℕ, ◌+◌, ◌<◌, Bool, cond, length, is_some, Some, None, Option}
 use Rattle.table.specs.declared.key_table.KeyTable.{KeyTable}
 use Rattle.table.specs.Entries.{look, held}
 

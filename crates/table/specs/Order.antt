@@ -1,5 +1,5 @@
 -- Required-first order: depth first, each node after its successors, and each node once. Assumes nothing.
-use Rattle.std.specs.Prelude.{◌≡◌, ℕ, zero, suc, Bool, true, false, cond, ◌||◌, List, [], ◌∷◌, ◌++◌, length, Some, None, Ok, Err, Option, Result}
+use Rattle.std.specs.Prelude.{ℕ, zero, suc, Bool, false, cond, ◌||◌, List, [], ◌∷◌, ◌++◌, length, Some, None, Ok, Err, Option, Result}
 
 -- what is said of nodes: their successors, what is refused where a node is met first, after so many others, and what
 -- where a node is met that is still being followed

@@ -5,7 +5,6 @@ ghost use Rattle.table.specs.Order.{Plan, among, opened, walk, order};
 ghost use Rattle.table.specs.Graphs.{Steady, Once, RequiredFirst};
 ghost use Rattle.table.specs.Outcomes.{Gave, Passed, walked};
 
-use crate::key::Key;
 use std::alloc::{AllocError, AllocFailed, Global};
 
 /// Why there is no order: the graph refuses, a path passes the depth at a node, or there was no memory.
@@ -35,7 +34,7 @@ impl<T: Drop, N, R> From<AllocFailed<T>> for Halt<N, R> {
 /// Nodes with successors. What a graph refuses is its own to say, and changes no answer that it gives later: `plan` is the
 /// same after each call.
 pub trait Graph {
-    type Node: Key;
+    type Node: Eq + Copy;
 
     type Refusal: Drop;
 
@@ -65,41 +64,36 @@ struct Trail<N> {
 }
 
 // Whether a node is one of these.
-fn is_among<N: Key>(node: &N, nodes: &[N]) -> bool
-    ensures { result ≡ among N.Key.like node.now nodes.now }
+fn is_among<N: Eq>(node: &N, nodes: &[N]) -> bool
+    ensures { result ≡ among N.PartialEq.eq node.now nodes.now }
 {
-    for n in nodes {
-        if node.same(n) {
-            return true;
-        }
-    }
-    false
+    nodes.contains(node)
 }
 
 // Follows a node by paths of so many nodes at most.
 fn follow<G: Graph>(
-    heap: Global,
     graph: &mut G,
     node: G::Node,
     left: usize,
     trail: &mut Trail<G::Node>,
 ) -> Result<(), Halt<G::Node, G::Refusal>>
-    ensures goes { Gave (λ k _. walked trail.new ≡ k) (walk G.Node.Key.like (G.Graph.plan graph.old) left node (walked trail.old)) result }
+    ensures goes { Gave (λ k _. walked trail.new ≡ k) (walk G.Node.PartialEq.eq (G.Graph.plan graph.old) left node (walked trail.old)) result }
     ensures stays { G.Graph.plan graph.new ≡ G.Graph.plan graph.old }
 {
     if left == 0 {
         return Err(Halt::TooDeep(node));
     }
-    if is_among(&node, trail.ended.as_slice()) {
+    if is_among(&node, &trail.ended) {
         return Ok(());
     }
-    if is_among(&node, trail.met.as_slice()) {
+    if is_among(&node, &trail.met) {
         return graph.cycle(node);
     }
+    let heap = *trail.met.allocator();
     let next = graph.successors(heap, node, trail.met.len())?;
     trail.met.push(node)?;
-    'along: for n in next.as_slice() {
-        follow(heap, graph, *n, left - 1, trail)?;
+    'along: for n in &next {
+        follow(graph, *n, left - 1, trail)?;
     }
     trail.ended.push(node)?;
     Ok(())
@@ -116,15 +110,15 @@ pub fn required_first<G: Graph>(
     root: G::Node,
     depth: usize,
 ) -> Result<Vec<G::Node>, Halt<G::Node, G::Refusal>>
-    ensures ordered { Gave (λ ns v. v.items ≡ ns) (order G.Node.Key.like (G.Graph.plan graph.old) depth root) result }
-    ensures once { IfOk result (λ v. Once G.Node.Key.like v.items) }
-    ensures lawful { Steady G.Node.Key.like (G.Graph.plan graph.old).successors → IfOk result (λ v. RequiredFirst G.Node.Key.like (G.Graph.plan graph.old).successors root v.items) }
+    ensures ordered { Gave (λ ns v. v.items ≡ ns) (order G.Node.PartialEq.eq (G.Graph.plan graph.old) depth root) result }
+    ensures once { IfOk result (λ v. Once G.Node.PartialEq.eq v.items) }
+    ensures lawful { Steady G.Node.PartialEq.eq (G.Graph.plan graph.old).successors → IfOk result (λ v. RequiredFirst G.Node.PartialEq.eq (G.Graph.plan graph.old).successors root v.items) }
     ensures stays { G.Graph.plan graph.new ≡ G.Graph.plan graph.old }
 {
     let mut trail = Trail {
         met: Vec::new(heap),
         ended: Vec::new(heap),
     };
-    follow(heap, graph, root, depth, &mut trail)?;
+    follow(graph, root, depth, &mut trail)?;
     Ok(trail.ended)
 }

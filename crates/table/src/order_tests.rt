@@ -2,15 +2,15 @@
 ghost use Rattle.std.specs.Prelude.{◌+◌, min, map, IfOk, if◌then◌else◌, Some, None, filter, nat_le};
 ghost use Rattle.table.specs.declared.order_tests.Fault.TheVariants.{Cycle, TooMany};
 ghost use Rattle.table.specs.Graphs.{RequiredFirst};
-ghost use Rattle.table.specs.Keys.{same_spelling};
+ghost use Rattle.word.specs.Words.{same_spelling};
 
-use crate::{Graph, Halt, Key, required_first};
+use crate::{Graph, Halt, required_first};
 use std::alloc::Global;
 use std::convert::Infallible;
 use std::test::Fail;
 use word::{Home, Word};
 
-#[derive(Clone, Copy)]
+#[derive(Clone, Copy, PartialEq, Eq, Debug)]
 pub struct Require {
     pub by: Word,
     pub from: Word,
@@ -18,7 +18,7 @@ pub struct Require {
 }
 
 /// Why modules have no order.
-#[derive(Clone, Copy)]
+#[derive(Clone, Copy, PartialEq, Eq, Debug)]
 pub enum Fault {
     Cycle(Word),
     TooMany(Word),
@@ -49,7 +49,7 @@ impl<'a> Graph for Modules<'a> {
         }
         let mut found = Vec::new(heap);
         for r in self.needs {
-            if r.by.same(&node) {
+            if r.by == node {
                 found.push(r.from)?;
             }
         }
@@ -82,7 +82,7 @@ impl<'a> Graph for Instances<'a> {
     ) -> Result<Vec<Home>, Halt<Home, Infallible>> {
         let mut found = Vec::new(heap);
         for r in self.needs {
-            if r.by.same(&node.module) {
+            if r.by == node.module {
                 found.push(Home {
                     module: r.from,
                     base: node.base.saturating_add(r.shift),
@@ -106,7 +106,7 @@ fn in_order(heap: Global, needs: &[Require], root: Word) -> Result<Vec<Word>, Ha
 }
 
 fn word(text: &[u8]) -> Result<Word, Fail> {
-    Ok(Word::parse(text).ok_or("not a word")?)
+    Ok(Word::try_from(text).map_err(|_| Fail::new("not a word"))?)
 }
 
 // a requires b and, one phase up, c, and both require d.
@@ -143,10 +143,10 @@ fn modules_in_order(rt: HostRuntime) -> Result<(), Fail> {
         return Err(Fail::new("refused"));
     };
     assert!(rt; order.len() == 4);
-    assert!(rt; order[0].same(&d));
-    assert!(rt; order[1].same(&b));
-    assert!(rt; order[2].same(&c));
-    assert!(rt; order[3].same(&a));
+    assert!(rt; order[0] == d);
+    assert!(rt; order[1] == b);
+    assert!(rt; order[2] == c);
+    assert!(rt; order[3] == a);
     Ok(())
 }
 
@@ -159,7 +159,7 @@ fn modules_refused(rt: HostRuntime) -> Result<(), Fail> {
         most: 3,
     };
     match required_first(rt.alloc(), &mut few, a, 3) {
-        Err(Halt::Refused(Fault::TooMany(w))) => assert!(rt; w.same(&c)),
+        Err(Halt::Refused(Fault::TooMany(w))) => assert!(rt; w == c),
         _ => return Err(Fail::new("too many modules")),
     }
     let mut deep = Modules {
@@ -168,7 +168,7 @@ fn modules_refused(rt: HostRuntime) -> Result<(), Fail> {
     };
     assert!(rt; required_first(rt.alloc(), &mut deep, a, 3).is_ok());
     match required_first(rt.alloc(), &mut deep, a, 2) {
-        Err(Halt::TooDeep(w)) => assert!(rt; w.same(&d)),
+        Err(Halt::TooDeep(w)) => assert!(rt; w == d),
         _ => return Err(Fail::new("too deep")),
     }
     let ring = [
@@ -189,7 +189,7 @@ fn modules_refused(rt: HostRuntime) -> Result<(), Fail> {
     };
     match required_first(rt.alloc(), &mut round, a, 4) {
         Err(Halt::Refused(Fault::Cycle(w))) => {
-            assert!(rt; w.same(&a));
+            assert!(rt; w == a);
             Ok(())
         },
         _ => Err(Fail::new("a cycle")),
@@ -197,7 +197,7 @@ fn modules_refused(rt: HostRuntime) -> Result<(), Fail> {
 }
 
 fn is_instance(of: &Home, module: Word, base: u8) -> bool {
-    of.same(&Home { module, base })
+    *of == Home { module, base }
 }
 
 #[test]

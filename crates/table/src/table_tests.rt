@@ -7,7 +7,7 @@ use crate::{BoundKey, Entry, Full, KeyTable, VariableKey};
 use text::Value;
 use word::{Home, Word};
 
-#[derive(Clone, Copy)]
+#[derive(Clone, Copy, PartialEq, Eq, Debug)]
 pub enum Binding {
     Procedure,
     Macro,
@@ -20,7 +20,10 @@ fn bound(word: Word, level: u8) -> BoundKey
 }
 
 // A name is bound at two levels, and is found again at the first.
-fn bind_twice(word: Word, entries: &mut [Entry<BoundKey, Binding>]) -> Result<Option<Binding>, Full>
+fn bind_twice(
+    word: Word,
+    entries: &mut [Option<Entry<BoundKey, Binding>>],
+) -> Result<Option<Binding>, Full>
     ensures { IfOk result (λ b. b ≡ Some Procedure) }
 {
     let mut table = KeyTable::new(entries);
@@ -42,7 +45,7 @@ fn variable(word: Word, base: u8) -> VariableKey
 // A variable is set twice, and of two instances only one has it.
 fn set_twice(
     word: Word,
-    entries: &mut [Entry<VariableKey, Value>],
+    entries: &mut [Option<Entry<VariableKey, Value>>],
 ) -> Result<(Option<Value>, Option<Value>), Full>
     ensures { IfOk result (λ p. (p.1 ≡ None)) }
 {
@@ -54,7 +57,7 @@ fn set_twice(
 
 #[test]
 fn bindings(rt: HostRuntime) {
-    let mut entries = [Entry::Blank; 2];
+    let mut entries = [None; 2];
     assert!(rt;
         matches!(
             bind_twice(Word::quote(), &mut entries),
@@ -66,7 +69,7 @@ fn bindings(rt: HostRuntime) {
 
 #[test]
 fn variables(rt: HostRuntime) {
-    let mut entries = [Entry::Blank; 1];
+    let mut entries = [None; 1];
     assert!(rt;
         matches!(
             set_twice(Word::quote(), &mut entries),
@@ -79,7 +82,10 @@ fn variables(rt: HostRuntime) {
 // A key that stands can be set in a full table, and a refusal leaves what stands.
 #[test]
 fn full(rt: HostRuntime) {
-    let mut entries = [Entry::Held(bound(Word::quote(), 7), Binding::Macro); 1];
+    let mut entries = [Some(Entry {
+        key: bound(Word::quote(), 7),
+        value: Binding::Macro,
+    }); 1];
     let mut table = KeyTable::new(&mut entries);
     assert!(rt; table.len() == 0);
     assert!(rt; table.get(&bound(Word::quote(), 7)).is_none());

@@ -1,6 +1,6 @@
 mod Means
+mod Lists
 mod Trees
-mod Steps
 mod Numbers
 mod Scans
 mod Readers

@@ -1,12 +1,11 @@
 -- The reader, byte by byte.
 use Rattle.std.proofs.Common.{◌≡◌, ℕ, ◌+◌, ◌-◌, ◌<◌, ◌≤◌, true, false, cond, eqb, List, [], ◌∷◌, length, get_or, take, drop, Ok, Err, Result, sym, refl, ap, ◌∙◌, subst, arith, Bor}
 use Rattle.std.proofs.lemmas.List.{drop_all, drop_more}
-use Rattle.rules.specs.declared.cause.Cause.{Cause}
 use Rattle.rules.specs.Refusals.{Refusal as PureRefusal}
 use Rattle.rules.proofs.Readings.{faults_lie_within}
 use Rattle.rules.specs.Words.{item_byte, text_home}
 use Rattle.rules.specs.Words.{Home as PureHome}
-use Rattle.rules.specs.Reading.{Read, reads, refused, Progress, scan, finish, mark, placed, item_of, ended, read, nothing_read}
+use Rattle.rules.specs.Reading.{Read, reads, Progress, scan, finish, mark, placed, item_of, ended, read, nothing_read}
 use Rattle.rules.specs.Reading.{Form as PureForm}
 use Rattle.word.specs.declared.Word.{Word}
 use Rattle.word.specs.declared.home.Home.{Home}
@@ -18,12 +17,8 @@ use Rattle.text.specs.declared.reader.Reader.{Reader}
 use Rattle.word.specs.Words.{home_of, spelling}
 use Rattle.text.specs.Tree.{Built, RefusedAs, Finished, Within}
 use Rattle.text.specs.Reads.{pending, from, SteppedTo}
+use Rattle.text.proofs.Trees.{refused_through}
 use Rattle.text.proofs.Scans.{item_more, mark_done, item_refused, mark_refused, finish_pending, pending_more, pending_none, end_done, end_refused}
-
--- a refusal of one reading is a refusal of another
-refused_through : {A B : Type 0} (o : Read A) (u : Read B) (m : Word) → ((c : Cause) (k : ℕ) → o ≡ refused c k → u ≡ refused c k) → (f : ReadFault) → RefusedAs o m f → RefusedAs u m f
-refused_through o u m through (Refused f) (c, k, e, g) = (c, k, through c k e, g)
-refused_through o u m through Memory r = tt
 
 -- what the end of the item before `at` gives
 abbrev pub ended_item : Reader → ℕ → Progress → Read Progress
@@ -96,18 +91,6 @@ pub record Reading (x : Reader) (home : Home) (bytes : List ℕ) (at : ℕ) : Ty
   pub input : x.bytes.now ≡ bytes
   pub begun : x.start ≤ at
   pub same : read (home_of home) bytes ≡ from x at (drop at bytes) progress
-
-pub reading_first : (x : Reader) (home : Home) (bytes : List ℕ) → Built x.tree nothing_read → x.tree.home ≡ home → x.bytes.now ≡ bytes → x.start ≡ 0 → Reading x home bytes 0
-reading_first x home bytes b h i s = record {
-  progress = nothing_read;
-  built = b;
-  home_same = h;
-  input = i;
-  begun = omega arith;
-  same =
-      let none : [] ≡ pending x.bytes.now x.start 0 = sym (ap (λ k. pending x.bytes.now k 0) s ∙ pending_none x.bytes.now 0) in
-      ap (λ (k : Home). scan (home_of k) bytes 0 [] nothing_read) (sym h) ∙ ap (λ pend. scan (home_of x.tree.home) bytes 0 pend nothing_read) none;
-}
 
 left_to_read : (x : Reader) (bytes : List ℕ) (at : ℕ) (p : Progress) → at < length bytes → from x at (drop at bytes) p ≡ from x at (get_or bytes at 0 ∷ drop (at + 1) bytes) p
 left_to_read x bytes at p a = ap (λ rest. from x at rest p) (drop_more bytes at 0 a)

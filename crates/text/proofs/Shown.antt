@@ -1,5 +1,5 @@
 -- What is written of a value is what is shown of its datum.
-use Rattle.std.proofs.Common.{◌≡◌, ℕ, ◌+◌, ◌<◌, ◌≤◌, cond, ◌⊎◌, List, [], ◌∷◌, ◌++◌, length, get_or, drop, ℤ, pos, is_ok, OnOk, Ok, Err, codes, Result, sym, refl, ap, ◌∙◌, subst, ⊎_elim, arith}
+use Rattle.std.proofs.Common.{◌≡◌, ℕ, ◌+◌, ◌<◌, ◌≤◌, cond, ◌⊎◌, Bor, List, [], ◌∷◌, ◌++◌, length, get_or, drop, ℤ, pos, is_ok, OnOk, Ok, Err, codes, Result, sym, refl, ap, ◌∙◌, subst, ⊎_elim, arith}
 use Rattle.std.specs.Fmt.{signed_decimal}
 use Rattle.std.specs.List.{flat_map}
 use Rattle.std.proofs.lemmas.List.{append-nil, append_assoc, drop_more, drop-drop, drop_all}
@@ -84,10 +84,11 @@ pub record Resting (cs : List Cell) (n : ℕ) (v : Value) (first : List ℕ) (m 
   pub within : m ≤ length cs
   pub same : now ++ shown_rest left ≡ first ++ shown_rest d
 
-pub resting_more : (cs ds : List Cell) (n : ℕ) (v : Value) (first : List ℕ) (m i : ℕ) (now next last : List ℕ) (d : Datum) (w : Value) → ds ≡ cs → w ≡ Pair i → next ≡ now ++ 32 ∷ [] → Writes ds i (get_or ds i no_cell).head shown next last → Resting cs n v first m w now d → Resting cs n v first i (get_or ds i no_cell).tail last d
-resting_more cs ds n v first m i now next last d w k is e f r =
+pub resting_more : (x y : Bor (List Cell)) (n : ℕ) (v : Value) (first : List ℕ) (m i : ℕ) (now next last : List ℕ) (d : Datum) (w : Value) → y ≡ x → w ≡ Pair i → next ≡ now ++ 32 ∷ [] → Writes y.now i (get_or y.now i no_cell).head shown next last → Resting x.now n v first m w now d → Resting x.now n v first i (get_or y.now i no_cell).tail last d
+resting_more x y n v first m i now next last d w k is e f r =
+    let cs = x.now in
     let h = halves cs m i w r.left is r.means in
-    let g : Writes cs i (get_or cs i no_cell).head shown next last = subst (λ (xs : List Cell). Writes xs i (get_or xs i no_cell).head shown next last) k f in
+    let g : Writes cs i (get_or cs i no_cell).head shown next last = subst (λ (z : Bor (List Cell)). Writes z.now i (get_or z.now i no_cell).head shown next last) k f in
     record {
       left = h.rest;
       means = rw k h.tail;
@@ -101,20 +102,21 @@ pub ended_empty : (cs : List Cell) (n m : ℕ) (v w : Value) (first now last : L
 ended_empty cs n m v w first now last d is e r =
     e ∙ ap (λ k. now ++ shown_rest k) (sym (empty_is cs m w r.left is r.means)) ∙ r.same
 
-pub ended_atom : (cs ds : List Cell) (n m : ℕ) (v w : Value) (first now p q last : List ℕ) (d : Datum) → ds ≡ cs → ((i : ℕ) → w ≡ Pair i → ⊥) → (w ≡ Empty → ⊥) → p ≡ now ++ codes " . " → Writes ds m w shown p q → last ≡ q ++ 41 ∷ [] → Resting cs n v first m w now d → last ≡ first ++ shown_rest d
-ended_atom cs ds n m v w first now p q last d k a b e f g r =
-    let h : q ≡ p ++ shown r.left = subst (λ (xs : List Cell). Writes xs m w shown p q) k f r.left r.means r.within in
-    g ∙ ap (λ k. k ++ 41 ∷ []) (h ∙ ap (λ k. k ++ shown r.left) e) ∙ regrouped ∙ ap (λ k. now ++ k) (atom_ended cs m w r.left a b r.means) ∙ r.same
+pub ended_atom : (x y : Bor (List Cell)) (n m : ℕ) (v w : Value) (first now p q last : List ℕ) (d : Datum) → y ≡ x → ((i : ℕ) → w ≡ Pair i → ⊥) → (w ≡ Empty → ⊥) → p ≡ now ++ codes " . " → Writes y.now m w shown p q → last ≡ q ++ 41 ∷ [] → Resting x.now n v first m w now d → last ≡ first ++ shown_rest d
+ended_atom x y n m v w first now p q last d k a b e f g r =
+    let h : q ≡ p ++ shown r.left = subst (λ (z : Bor (List Cell)). Writes z.now m w shown p q) k f r.left r.means r.within in
+    g ∙ ap (λ k. k ++ 41 ∷ []) (h ∙ ap (λ k. k ++ shown r.left) e) ∙ regrouped ∙ ap (λ k. now ++ k) (atom_ended x.now m w r.left a b r.means) ∙ r.same
   where
     regrouped : ((now ++ codes " . ") ++ shown r.left) ++ 41 ∷ [] ≡ now ++ (codes " . " ++ (shown r.left ++ (41 ∷ [])))
     regrouped = simp append_assoc
 
-pub pair_written : (cs ds : List Cell) (n i : ℕ) (v : Value) (o p q r : List ℕ) → ds ≡ cs → v ≡ Pair i → p ≡ o ++ 40 ∷ [] → Writes cs i (get_or cs i no_cell).head shown p q → Writes ds i (get_or cs i no_cell).tail shown_rest q r → Writes cs n v shown o r
-pair_written cs ds n i v o p q r k is e f g d m l =
+pub pair_written : (x y : Bor (List Cell)) (n i : ℕ) (v : Value) (o p q r : List ℕ) → y ≡ x → v ≡ Pair i → p ≡ o ++ 40 ∷ [] → Writes x.now i (get_or x.now i no_cell).head shown p q → Writes y.now i (get_or x.now i no_cell).tail shown_rest q r → Writes x.now n v shown o r
+pair_written x y n i v o p q r k is e f g d m l =
+    let cs = x.now in
     let h = halves cs n i v d is m in
     let j : i ≤ length cs = omega (arith, h.below) in
-    let t : Writes cs i (get_or cs i no_cell).tail shown_rest q r = subst (λ (xs : List Cell). Writes xs i (get_or cs i no_cell).tail shown_rest q r) k g in
-    written_pair 40 o p q r (shown h.first) (shown_rest h.rest) e (f h.first h.head j) (t h.rest h.tail j) ∙ ap (λ x. o ++ shown x) (sym h.is)
+    let t : Writes cs i (get_or cs i no_cell).tail shown_rest q r = subst (λ (z : Bor (List Cell)). Writes z.now i (get_or cs i no_cell).tail shown_rest q r) k g in
+    written_pair 40 o p q r (shown h.first) (shown_rest h.rest) e (f h.first h.head j) (t h.rest h.tail j) ∙ ap (λ a. o ++ shown a) (sym h.is)
 
 -- a pair past the cells stands for nothing
 pub pair_past : {P : Type 0} (cs : List Cell) (n i : ℕ) (v : Value) (d : Datum) → v ≡ Pair i → (n ≤ i) ⊎ (length cs ≤ i) → Means cs n v d → n ≤ length cs → P
@@ -134,25 +136,15 @@ pub record Listing (cs : List Cell) (xs : List Form) (i : ℕ) (out : List ℕ) 
   pub rest : Forms cs (drop i xs) (drop i fs)
   pub same : out ++ flat_map form_line (drop i fs) ≡ flat_map form_line fs
 
-pub listing_more : (cs ds : List Cell) (xs : List Form) (i : ℕ) (out next : List ℕ) (fs : List PureForm) → ds ≡ cs → i < length xs → ((d : Datum) → Stands ds (get_or xs i no_form).datum d → next ≡ out ++ form_line (record { offset = (get_or xs i no_form).offset; datum = d })) → Listing cs xs i out fs → Listing cs xs (i + 1) next fs
-listing_more cs ds xs i out next fs kept l f k = by (drop i fs) refl (subst (λ (ys : List Form). Forms cs ys (drop i fs)) (drop_more xs i no_form l) k.rest) k.same
+pub listing_more : (x y : Bor (List Cell)) (xs : List Form) (i : ℕ) (out next : List ℕ) (fs : List PureForm) → y ≡ x → i < length xs → ((d : Datum) → Stands y.now (get_or xs i no_form).datum d → next ≡ out ++ form_line (record { offset = (get_or xs i no_form).offset; datum = d })) → Listing x.now xs i out fs → Listing x.now xs (i + 1) next fs
+listing_more x y xs i out next fs kept l f k = by (drop i fs) refl (subst (λ (ys : List Form). Forms x.now ys (drop i fs)) (drop_more xs i no_form l) k.rest) k.same
   where
-    by : (gs : List PureForm) → drop i fs ≡ gs → Forms cs (get_or xs i no_form ∷ drop (i + 1) xs) gs → out ++ flat_map form_line gs ≡ flat_map form_line fs → Listing cs xs (i + 1) next fs
+    by : (gs : List PureForm) → drop i fs ≡ gs → Forms x.now (get_or xs i no_form ∷ drop (i + 1) xs) gs → out ++ flat_map form_line gs ≡ flat_map form_line fs → Listing x.now xs (i + 1) next fs
     by [] d m same = absurd m
     by (g ∷ gs) d m same =
         let left : drop (i + 1) fs ≡ gs = sym (drop-drop 1 i fs) ∙ ap (drop 1) d in
-        let line : next ≡ out ++ form_line g = f g.datum (rw kept m.1) ∙ ap (λ n. out ++ form_line (record { offset = n; datum = g.datum })) m.0 in
+        let line : next ≡ out ++ form_line g = f g.datum (rw kept m.0.1) ∙ ap (λ n. out ++ form_line (record { offset = n; datum = g.datum })) m.0.0 in
         record {
-          rest = subst (λ (ys : List PureForm). Forms cs (drop (i + 1) xs) ys) (sym left) m.2;
+          rest = subst (λ (ys : List PureForm). Forms x.now (drop (i + 1) xs) ys) (sym left) m.1;
           same = ap (λ ys. next ++ flat_map form_line ys) left ∙ ap (λ k. k ++ flat_map form_line gs) line ∙ append_assoc out (form_line g) (flat_map form_line gs) ∙ same;
         }
-
-pub listing_all : (cs : List Cell) (xs : List Form) (i : ℕ) (out : List ℕ) (fs : List PureForm) → length xs ≤ i → Listing cs xs i out fs → out ≡ flat_map form_line fs
-listing_all cs xs i out fs l k = by (drop i fs) (subst (λ (ys : List Form). Forms cs ys (drop i fs)) (drop_all i xs l) k.rest) k.same
-  where
-    by : (gs : List PureForm) → Forms cs [] gs → out ++ flat_map form_line gs ≡ flat_map form_line fs → out ≡ flat_map form_line fs
-    by [] m same = sym (append-nil out) ∙ same
-    by (g ∷ gs) m same = absurd m
-
-pub forms_through : (cs es : List Cell) (xs ys : List Form) (fs : List PureForm) → es ≡ cs → ys ≡ xs → Forms cs xs fs → Forms es ys fs
-forms_through cs es xs ys fs e f m = subst (λ (ks : List Cell). Forms ks ys fs) (sym e) (subst (λ (ks : List Form). Forms cs ks fs) (sym f) m)

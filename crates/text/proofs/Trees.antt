@@ -1,215 +1,198 @@
--- The parts of a text that is being read: what a `)` takes off, and what stands while cells are added.
-use Rattle.std.proofs.Common.{◌≡◌, ℕ, ◌-◌, ◌<◌, ◌≤◌, true, false, ltb, List, [], ◌∷◌, ◌++◌, reverse, length, get_or, is_some, Some, None, Option, sym, refl, ap, ◌∙◌, subst, arith}
+-- The tree of a text, byte by byte.
+use Rattle.std.proofs.Common.{◌≡◌, ℕ, ◌<◌, ◌≤◌, cond, eqb, leb, List, [], ◌∷◌, ◌++◌, reverse, length, sym, refl, ap, ◌∙◌, subst, vec_items, Vec, Ok, Err, Result, arith}
+use Rattle.std.specs.declared.alloc.Global.{Global}
 use mathlib.Core.List.{reverse-cons, reverse-append}
-use Rattle.std.specs.Option.{option_to_list}
-use Rattle.std.proofs.lemmas.List.{append-nil, append_assoc, get_or-reverse, get_or_default}
-use Rattle.std.proofs.lemmas.Bool.{true≢false, false≢true, ltb-false}
+use Rattle.std.proofs.lemmas.List.{length-reverse}
+use Rattle.std.proofs.lemmas.Bool.{cond-true, cond-false, ne_eqb, lt-leb, le-leb}
+use Rattle.rules.specs.declared.cause.Cause.{Cause}
 use Rattle.rules.specs.Words.{Datum, list_of}
-use Rattle.rules.specs.Reading.{Open, bracket, quoted, settle, quote_of}
+use Rattle.rules.specs.Reading.{Open as PureOpen, Read, reads, refused, bracket, quoted, Progress, settle, start, nest, close, ended, quote_of}
 use Rattle.rules.specs.Reading.{Form as PureForm}
-use Rattle.word.specs.declared.home.Home.{Home}
 use Rattle.text.specs.declared.data.Value.{Value}
 use Rattle.text.specs.declared.data.Cell.{Cell}
-use Rattle.text.specs.declared.tree.Part.{Part}
-use Rattle.text.specs.declared.tree.Part.TheVariants.{Bracket, Quote, Datum as Held}
+use Rattle.text.specs.declared.tree.Open.{Open}
+use Rattle.text.specs.declared.refusal.ReadFault.{ReadFault}
+use Rattle.text.specs.declared.refusal.ReadFault.TheVariants.{Refused, Memory}
 use Rattle.text.specs.declared.tree.Form.{Form}
+use Rattle.word.specs.declared.Word.{Word}
+use Rattle.word.specs.declared.home.Home.{Home}
+use Rattle.text.specs.declared.tree.Tree.{Tree}
 use Rattle.word.specs.Words.{home_of}
-use Rattle.text.specs.Data.{Stands, Grows, Quoted}
-use Rattle.text.specs.Tree.{Parts, Forms, Taken, TakenFor, is_quote, quote_first, Unquoted, UnquotedAs, UnquotedTop}
-use Rattle.text.proofs.Means.{stands_on, grows_not, grows_by, grows_twice, pair_pushed}
+use Rattle.text.specs.Data.{Each, Stands, Grows, Quoted, Listed}
+use Rattle.text.specs.Tree.{FormIs, Forms, OpenIs, Opened, Built, Went, Steps, RefusedAs}
+use Rattle.text.proofs.Lists.{each_on, each_push, each_length}
+use Rattle.text.proofs.Means.{stands_on}
 
-pub parts_on : (cs es : List Cell) → Grows cs es → (ps : List Part) (os : List Open) → Parts cs ps os → Parts es ps os
-parts_on cs es g [] [] p = p
-parts_on cs es g [] (o ∷ os) p = p
-parts_on cs es g (Quote ∷ ps) (quoted ∷ os) p = parts_on cs es g ps os p
-parts_on cs es g (Quote ∷ ps) (bracket ds ∷ os) p = p
-parts_on cs es g (Quote ∷ ps) [] p = p
-parts_on cs es g (Bracket ∷ ps) (bracket [] ∷ os) p = parts_on cs es g ps os p
-parts_on cs es g (Bracket ∷ ps) (bracket (d ∷ ds) ∷ os) p = p
-parts_on cs es g (Bracket ∷ ps) (quoted ∷ os) p = p
-parts_on cs es g (Bracket ∷ ps) [] p = p
-parts_on cs es g (Held v ∷ ps) (bracket (d ∷ ds) ∷ os) p = (stands_on cs es v d g p.0, parts_on cs es g ps (bracket ds ∷ os) p.1)
-parts_on cs es g (Held v ∷ ps) (bracket [] ∷ os) p = p
-parts_on cs es g (Held v ∷ ps) (quoted ∷ os) p = p
-parts_on cs es g (Held v ∷ ps) [] p = p
+-- what goes on to stand while cells are added
+open_on : (cs es : List Cell) → Grows cs es → (o : Open) (q : PureOpen) → OpenIs cs o q → OpenIs es o q
+open_on cs es g (Open.List vs) (bracket ds) e = each_on (Stands cs) (Stands es) (λ v d. stands_on cs es v d g) (vec_items vs) (reverse ds) e
+open_on cs es g (Open.List vs) quoted e = e
+open_on cs es g Open.Quote (bracket ds) e = e
+open_on cs es g Open.Quote quoted e = e
 
-pub forms_on : (cs es : List Cell) → Grows cs es → (fs : List Form) (gs : List PureForm) → Forms cs fs gs → Forms es fs gs
-forms_on cs es g [] [] p = p
-forms_on cs es g [] (h ∷ hs) p = p
-forms_on cs es g (f ∷ fs) [] p = p
-forms_on cs es g (f ∷ fs) (h ∷ hs) p = (p.0, stands_on cs es f.datum h.datum g p.1, forms_on cs es g fs hs p.2)
+opened_on : (cs es : List Cell) → Grows cs es → (os : List Open) (qs : List PureOpen) → Opened cs os qs → Opened es os qs
+opened_on cs es g = each_on (OpenIs cs) (OpenIs es) (open_on cs es g)
 
--- the newest part of a stack
+forms_on : (cs es : List Cell) → Grows cs es → (fs : List Form) (gs : List PureForm) → Forms cs fs gs → Forms es fs gs
+forms_on cs es g = each_on (FormIs cs) (FormIs es) (λ f h e. (e.0, stands_on cs es f.datum h.datum g e.1))
+
+-- the newest of a stack
 pub newest : {A : Type 0} (xs ys : List A) (x : A) → xs ≡ ys ++ x ∷ [] → reverse xs ≡ x ∷ reverse ys
 newest xs ys x e = ap reverse e ∙ reverse-append ys (x ∷ [])
 
-pub newest_is : {A : Type 0} (xs ys : List A) (x y : A) → xs ≡ ys ++ x ∷ [] → x ≡ y → xs ≡ ys ++ y ∷ []
-newest_is xs ys x y e f = e ∙ ap (λ z. ys ++ z ∷ []) f
+-- z is y but for cells that were added and what is open
+pub record Beside (y z : Tree) : Type 0 where
+  pub home : z.home ≡ y.home
+  pub begun : z.begun ≡ y.begun
+  pub grown : Grows (vec_items y.cells) (vec_items z.cells)
+  pub forms : vec_items z.forms ≡ vec_items y.forms
 
--- what is left of the innermost list, and the list of what was taken off it
-abbrev Midway : List Cell → List Part → Value → List Open → Type 0
-Midway cs ps list [] = Parts cs ps []
-Midway cs ps list (quoted ∷ os) = Parts cs ps (quoted ∷ os)
-Midway cs ps list (bracket ds ∷ os) =
-    (left : List Datum) × (done : List Datum) × (reverse ds ≡ reverse left ++ done) × Parts cs ps (bracket left ∷ os) × Stands cs list (list_of done)
+-- what z was built to, where these lists and quotes are open in it
+pub built_beside : (y z : Tree) (p : Progress) (os : List PureOpen) → Beside y z → Opened (vec_items y.cells) (reverse (vec_items z.opened)) os → Built y p → Built z (record { opened = os; begun = p.begun; forms = p.forms })
+built_beside y z p os k o b = record {
+  opened = opened_on (vec_items y.cells) (vec_items z.cells) k.grown (reverse (vec_items z.opened)) os o;
+  begun = k.begun ∙ b.begun;
+  forms = subst (λ (fs : List Form). Forms (vec_items z.cells) fs (reverse p.forms)) (sym k.forms) (forms_on (vec_items y.cells) (vec_items z.cells) k.grown (vec_items y.forms) (reverse p.forms) b.forms);
+}
 
-pub record Taking (cs : List Cell) (ps : List Part) (es : List Cell) (qs : List Part) (list : Value) : Type 0 where
-  pub grown : Grows cs es
-  pub each : (os : List Open) → Parts cs (reverse ps) os → Midway es (reverse qs) list os
+-- the quotes around a datum so far are closed: y has what is open around them, and w stands for the datum with them
+pub record Settling (x y : Tree) (w : Value) (p : Progress) (d : Datum) : Type 0 where
+  pub outer : List PureOpen
+  pub whole : Datum
+  pub same : settle (home_of x.home) p.begun p.forms p.opened d ≡ settle (home_of x.home) p.begun p.forms outer whole
+  pub built : Built y (record { opened = outer; begun = p.begun; forms = p.forms })
+  pub stands : Stands (vec_items y.cells) w whole
+  pub home : y.home ≡ x.home
 
-midway_first : (cs : List Cell) (ps : List Part) (os : List Open) → Parts cs ps os → Midway cs ps Value.Empty os
-midway_first cs ps [] p = p
-midway_first cs ps (quoted ∷ os) p = p
-midway_first cs ps (bracket ds ∷ os) p = (ds, [], sym (append-nil (reverse ds)), p, refl)
+abbrev pub Settles : Tree → Value → Tree → Value → Type 0
+Settles x v y w = (p : Progress) (d : Datum) → Built x p → Stands (vec_items x.cells) v d → Settling x y w p d
 
-pub taking_first : (cs : List Cell) (ps : List Part) → Taking cs ps cs ps Value.Empty
-taking_first cs ps = record { grown = grows_not cs; each = midway_first cs (reverse ps) }
+pub settles_first : (x : Tree) (v : Value) → Settles x v x v
+settles_first x v p d b s = record { outer = p.opened; whole = d; same = refl; built = b; stands = s; home = refl }
 
-regroup : (ds left done : List Datum) (d : Datum) → reverse ds ≡ reverse (d ∷ left) ++ done → reverse ds ≡ reverse left ++ d ∷ done
-regroup ds left done d e = e ∙ ap (λ xs. xs ++ done) (reverse-cons d left) ∙ append_assoc (reverse left) (d ∷ []) done
-
-midway_datum : (cs es : List Cell) (ps : List Part) (v list next : Value) (os : List Open) → next ≡ Value.Pair (length cs) → es ≡ cs ++ record { head = v; tail = list } ∷ [] → Midway cs (Held v ∷ ps) list os → Midway es ps next os
-midway_datum cs es ps v list next [] i e m = absurd m
-midway_datum cs es ps v list next (quoted ∷ os) i e m = absurd m
-midway_datum cs es ps v list next (bracket ds ∷ os) i e (left, done, r, p, s) = by left r p
+-- one more quote closes
+pub quote_closed : (x y z : Tree) (v w u : Value) → Beside y z → vec_items y.opened ≡ vec_items z.opened ++ Open.Quote ∷ [] → Quoted (vec_items y.cells) (vec_items z.cells) y.home w u → Settles x v y w → Settles x v z u
+quote_closed x y z v w u k n q f p d b s = let t = f p d b s in by t t.outer t.same t.built (subst (λ (os : List Open). Opened (vec_items y.cells) os t.outer) (newest _ _ Open.Quote n) t.built.opened)
   where
-    g : Grows cs es
-    g = grows_by cs es _ e
-
-    by : (left : List Datum) → reverse ds ≡ reverse left ++ done → Parts cs (Held v ∷ ps) (bracket left ∷ os) → Midway es ps next (bracket ds ∷ os)
-    by [] r p = absurd p
-    by (d ∷ left) r p =
-        (left, d ∷ done, regroup ds left done d r, parts_on cs es g ps (bracket left ∷ os) p.1, pair_pushed cs es v list next d (list_of done) i e p.0 s)
-
--- one more datum
-pub taking_datum : (cs es fs : List Cell) (ps qs rs : List Part) (v list next : Value) → qs ≡ rs ++ Held v ∷ [] → next ≡ Value.Pair (length es) → fs ≡ es ++ record { head = v; tail = list } ∷ [] → Taking cs ps es qs list → Taking cs ps fs rs next
-taking_datum cs es fs ps qs rs v list next n i e t = record {
-  grown = grows_twice cs es fs t.grown (grows_by es fs _ e);
-  each = λ os p. midway_datum es fs (reverse rs) v list next os i e (subst (λ (xs : List Part). Midway es xs list os) (newest qs rs (Held v) n) (t.each os p));
-}
-
-taken_bracket : (cs : List Cell) (ps : List Part) (list : Value) (os : List Open) → Midway cs (Bracket ∷ ps) list os → TakenFor cs ps os (Some list)
-taken_bracket cs ps list [] m = absurd m
-taken_bracket cs ps list (quoted ∷ os) m = absurd m
-taken_bracket cs ps list (bracket ds ∷ os) (left, done, r, p, s) = by left r p
-  where
-    by : (left : List Datum) → reverse ds ≡ reverse left ++ done → Parts cs (Bracket ∷ ps) (bracket left ∷ os) → TakenFor cs ps (bracket ds ∷ os) (Some list)
-    by [] r p = (subst (λ (xs : List Datum). Stands cs list (list_of xs)) (sym r) s, p)
-    by (d ∷ left) r p = absurd p
-
--- the bracket ends the list
-pub taking_bracket : (cs es : List Cell) (ps qs rs : List Part) (list : Value) → qs ≡ rs ++ Bracket ∷ [] → Taking cs ps es qs list → Taken cs ps es rs (Some list)
-taking_bracket cs es ps qs rs list n t = record {
-  grown = t.grown;
-  each = λ os p. taken_bracket es (reverse rs) list os (subst (λ (xs : List Part). Midway es xs list os) (newest qs rs Bracket n) (t.each os p));
-}
-
-taken_quote : (cs : List Cell) (ps qs : List Part) (list : Value) (os : List Open) → Midway cs (Quote ∷ ps) list os → TakenFor cs qs os None
-taken_quote cs ps qs list [] m = refl
-taken_quote cs ps qs list (quoted ∷ os) m = refl
-taken_quote cs ps qs list (bracket ds ∷ os) (left, done, r, p, s) = by left p
-  where
-    by : (left : List Datum) → Parts cs (Quote ∷ ps) (bracket left ∷ os) → ⊥
-    by left p = p
-
-pub taking_quote : (cs es : List Cell) (ps qs rs : List Part) (list : Value) → qs ≡ rs ++ Quote ∷ [] → Taking cs ps es qs list → Taken cs ps es rs None
-taking_quote cs es ps qs rs list n t = record {
-  grown = t.grown;
-  each = λ os p. taken_quote es (reverse rs) (reverse rs) list os (subst (λ (xs : List Part). Midway es xs list os) (newest qs rs Quote n) (t.each os p));
-}
-
-taken_nothing : (cs : List Cell) (qs : List Part) (list : Value) (os : List Open) → Midway cs [] list os → TakenFor cs qs os None
-taken_nothing cs qs list [] m = refl
-taken_nothing cs qs list (quoted ∷ os) m = refl
-taken_nothing cs qs list (bracket ds ∷ os) m = absurd m.3
-
--- there was no list
-pub taking_nothing : (cs es : List Cell) (ps qs rs : List Part) (list : Value) → qs ≡ [] → Taking cs ps es qs list → Taken cs ps es rs None
-taking_nothing cs es ps qs rs list n t = record {
-  grown = t.grown;
-  each = λ os p. taken_nothing es (reverse rs) list os (subst (λ (xs : List Part). Midway es (reverse xs) list os) n (t.each os p));
-}
-
--- any state of the open lists and quotes
-abbrev pub Any : List Open → Type 0
-Any os = Unit {0}
-
-pub unquoted_first : (h : Home) (cs : List Cell) (ps : List Part) (depth : ℕ) (v : Value) → Unquoted Any h cs ps depth v cs ps depth v
-unquoted_first h cs ps depth v = record {
-  grown = grows_not cs;
-  each = λ os d p e s. record { outer = os; whole = d; top = tt; same = λ begun forms. refl; parts = p; deep = e; stands = s };
-}
-
-one_unquoted : (h : Home) (os : List Open) (d : Datum) (cs es : List Cell) (qs rs : List Part) (left less : ℕ) (v w : Value) → less ≡ left - 1 → Quoted cs es h v w → qs ≡ rs ++ Quote ∷ [] → UnquotedAs Any h os d cs qs left v → UnquotedAs Any h os d es rs less w
-one_unquoted h os d cs es qs rs left less v w f q n u =
-    by u.outer u.same (subst (λ (xs : List Part). Parts cs xs u.outer) (newest qs rs Quote n) u.parts) u.deep
-  where
-    by : (outer : List Open) → ((begun : ℕ) (forms : List PureForm) → settle (home_of h) begun forms os d ≡ settle (home_of h) begun forms outer u.whole) → Parts cs (Quote ∷ reverse rs) outer → left ≡ length outer → UnquotedAs Any h os d es rs less w
-    by [] same p e = absurd p
-    by (bracket ds ∷ outer) same p e = absurd p
-    by (quoted ∷ outer) same p e = record {
+    by : (t : Settling x y w p d) (outer : List PureOpen) → settle (home_of x.home) p.begun p.forms p.opened d ≡ settle (home_of x.home) p.begun p.forms outer t.whole → Built y (record { opened = outer; begun = p.begun; forms = p.forms }) → Opened (vec_items y.cells) (Open.Quote ∷ reverse (vec_items z.opened)) outer → Settling x z u p d
+    by t [] e b o = absurd o
+    by t (bracket ds ∷ outer) e b o = absurd o.0
+    by t (quoted ∷ outer) e b o = record {
       outer = outer;
-      whole = quote_of (home_of h) u.whole;
-      top = tt;
-      same = same;
-      parts = parts_on cs es q.grown (reverse rs) outer p;
-      deep = omega arith;
-      stands = q.each u.whole u.stands;
+      whole = quote_of (home_of x.home) t.whole;
+      same = e;
+      built = built_beside y z (record { opened = quoted ∷ outer; begun = p.begun; forms = p.forms }) outer k o.1 b;
+      stands = subst (λ (h : Home). Stands (vec_items z.cells) u (quote_of (home_of h) t.whole)) t.home (q.each t.whole t.stands);
+      home = k.home ∙ t.home;
     }
 
-pub unquoted_more : (h : Home) (cs es fs : List Cell) (ps qs rs : List Part) (depth left less : ℕ) (v w x : Value) → less ≡ left - 1 → Quoted es fs h w x → qs ≡ rs ++ Quote ∷ [] → Unquoted Any h cs ps depth v es qs left w → Unquoted Any h cs ps depth v fs rs less x
-unquoted_more h cs es fs ps qs rs depth left less v w x f q n u = record {
-  grown = grows_twice cs es fs u.grown q.grown;
-  each = λ os d p e s. one_unquoted h os d es fs qs rs left less w x f q n (u.each os d p e s);
-}
+abbrev Settled : Tree → Tree → Progress → Datum → Type 0
+Settled x z p d = (q : Progress) × (reads (settle (home_of x.home) p.begun p.forms p.opened d) ≡ reads q) × Built z q × (z.home ≡ x.home)
 
-top_unquoted : (cs : List Cell) (ps : List Part) (os : List Open) → quote_first ps ≡ false → Parts cs ps os → UnquotedTop os
-top_unquoted cs ps [] e p = tt
-top_unquoted cs ps (bracket ds ∷ os) e p = tt
-top_unquoted cs [] (quoted ∷ os) e p = p
-top_unquoted cs (Quote ∷ ps) (quoted ∷ os) e p = absurd (true≢false e)
-top_unquoted cs (Bracket ∷ ps) (quoted ∷ os) e p = p
-top_unquoted cs (Held v ∷ ps) (quoted ∷ os) e p = p
-
-pub unquoted_all : (h : Home) (cs es : List Cell) (ps qs : List Part) (depth left : ℕ) (v w : Value) → quote_first (reverse qs) ≡ false → Unquoted Any h cs ps depth v es qs left w → Unquoted UnquotedTop h cs ps depth v es qs left w
-unquoted_all h cs es ps qs depth left v w e u = record {
-  grown = u.grown;
-  each = λ os d p f s.
-      let k = u.each os d p f s in
-      record {
-        outer = k.outer;
-        whole = k.whole;
-        top = top_unquoted es (reverse qs) k.outer e k.parts;
-        same = k.same;
-        parts = k.parts;
-        deep = k.deep;
-        stands = k.stands;
-      };
-}
-
--- what is popped where a quote is innermost
-pub quote_popped : (ps qs : List Part) (r : Option Part) (n : ℕ) → ps ≡ qs ++ option_to_list r → is_some r ≡ ltb 0 n → n ≡ length ps → quote_first (reverse ps) ≡ true → ps ≡ qs ++ Quote ∷ []
-quote_popped [] qs None n e t l q = absurd (false≢true q)
-quote_popped (p ∷ ps) qs None n e t l q = absurd (omega (arith, ltb-false 0 n (sym t)))
-quote_popped ps qs (Some x) n e t l q = by x e (sym (ap quote_first (newest ps qs x e)) ∙ q)
+-- the datum goes into the innermost list
+pub datum_joined : (x y z : Tree) (v w : Value) (os : List Open) (vs us : Vec Value Global) → Beside y z → vec_items y.opened ≡ os ++ Open.List vs ∷ [] → vec_items z.opened ≡ os ++ Open.List us ∷ [] → vec_items us ≡ vec_items vs ++ w ∷ [] → Settles x v y w → (p : Progress) (d : Datum) → Built x p → Stands (vec_items x.cells) v d → Settled x z p d
+datum_joined x y z v w os vs us k n m i f p d b s = let t = f p d b s in by t t.outer t.same t.built (subst (λ (os : List Open). Opened (vec_items y.cells) os t.outer) (newest _ _ (Open.List vs) n) t.built.opened)
   where
-    by : (x : Part) → ps ≡ qs ++ x ∷ [] → quote_first (x ∷ reverse qs) ≡ true → ps ≡ qs ++ Quote ∷ []
-    by Quote e q = e
-    by Bracket e q = absurd (false≢true q)
-    by (Held v) e q = absurd (false≢true q)
+    by : (t : Settling x y w p d) (outer : List PureOpen) → settle (home_of x.home) p.begun p.forms p.opened d ≡ settle (home_of x.home) p.begun p.forms outer t.whole → Built y (record { opened = outer; begun = p.begun; forms = p.forms }) → Opened (vec_items y.cells) (Open.List vs ∷ reverse os) outer → Settled x z p d
+    by t [] e b o = absurd o
+    by t (quoted ∷ outer) e b o = absurd o.0
+    by t (bracket ds ∷ outer) e b o =
+        let more : Each (Stands (vec_items y.cells)) (vec_items vs ++ w ∷ []) (reverse ds ++ t.whole ∷ []) = each_push (Stands (vec_items y.cells)) (vec_items vs) (reverse ds) w t.whole o.0 t.stands in
+        let item : Each (Stands (vec_items y.cells)) (vec_items us) (reverse (t.whole ∷ ds)) = subst (λ (xs : List Value). Each (Stands (vec_items y.cells)) xs (reverse (t.whole ∷ ds))) (sym i) (subst (λ (xs : List Datum). Each (Stands (vec_items y.cells)) (vec_items vs ++ w ∷ []) xs) (sym (reverse-cons t.whole ds)) more) in
+        let all : Opened (vec_items y.cells) (reverse (vec_items z.opened)) (bracket (t.whole ∷ ds) ∷ outer) = subst (λ (xs : List Open). Opened (vec_items y.cells) xs (bracket (t.whole ∷ ds) ∷ outer)) (sym (newest _ _ (Open.List us) m)) (item, o.1) in (
+          record { opened = bracket (t.whole ∷ ds) ∷ outer; begun = p.begun; forms = p.forms },
+          ap reads e,
+          built_beside y z (record { opened = bracket ds ∷ outer; begun = p.begun; forms = p.forms }) (bracket (t.whole ∷ ds) ∷ outer) k all b,
+          k.home ∙ t.home,
+        )
 
-quote_at : (xs : List Part) → quote_first xs ≡ is_quote (get_or xs 0 Bracket)
-quote_at [] = refl
-quote_at (x ∷ xs) = refl
+-- the datum is a form
+pub form_added : (x y z : Tree) (v w : Value) → vec_items y.opened ≡ [] → z.home ≡ y.home → z.begun ≡ y.begun → vec_items z.cells ≡ vec_items y.cells → vec_items z.opened ≡ [] → vec_items z.forms ≡ vec_items y.forms ++ record { offset = y.begun; datum = w } ∷ [] → Settles x v y w → (p : Progress) (d : Datum) → Built x p → Stands (vec_items x.cells) v d → Settled x z p d
+form_added x y z v w n home begun cells opened pushed f p d b s = let t = f p d b s in by t t.outer t.same t.built (subst (λ (os : List Open). Opened (vec_items y.cells) (reverse os) t.outer) n t.built.opened)
+  where
+    by : (t : Settling x y w p d) (outer : List PureOpen) → settle (home_of x.home) p.begun p.forms p.opened d ≡ settle (home_of x.home) p.begun p.forms outer t.whole → Built y (record { opened = outer; begun = p.begun; forms = p.forms }) → Opened (vec_items y.cells) [] outer → Settled x z p d
+    by t (q ∷ outer) e b o = absurd o
+    by t [] e b o =
+        let g : PureForm = record { offset = p.begun; datum = t.whole } in
+        let more : Forms (vec_items y.cells) (vec_items y.forms ++ record { offset = y.begun; datum = w } ∷ []) (reverse p.forms ++ g ∷ []) = each_push (FormIs (vec_items y.cells)) (vec_items y.forms) (reverse p.forms) (record { offset = y.begun; datum = w }) g b.forms (b.begun, t.stands) in
+        let all : Forms (vec_items y.cells) (vec_items z.forms) (reverse (g ∷ p.forms)) = subst (λ (fs : List Form). Forms (vec_items y.cells) fs (reverse (g ∷ p.forms))) (sym pushed) (subst (λ (gs : List PureForm). Forms (vec_items y.cells) (vec_items y.forms ++ record { offset = y.begun; datum = w } ∷ []) gs) (sym (reverse-cons g p.forms)) more) in (
+          record { opened = []; begun = p.begun; forms = g ∷ p.forms },
+          ap reads e,
+          record {
+            opened = subst (λ (os : List Open). Opened (vec_items z.cells) (reverse os) []) (sym opened) tt;
+            begun = begun ∙ b.begun;
+            forms = subst (λ (cs : List Cell). Forms cs (vec_items z.forms) (reverse (g ∷ p.forms))) (sym cells) all;
+          },
+          home ∙ t.home,
+        )
 
--- the last part is the newest
-pub last_is : (ps : List Part) (x : Part) → 0 < length ps → x ≡ get_or ps (length ps - 1) x → is_quote x ≡ quote_first (reverse ps)
-last_is ps x l e =
-    let at = get_or-reverse ps 0 Bracket l in
-    let same : get_or ps (length ps - 1 - 0) Bracket ≡ get_or ps (length ps - 1) x =
-    ap (λ i. get_or ps i Bracket) (omega arith) ∙ get_or_default ps (length ps - 1) Bracket x (omega arith) in
-    sym (quote_at (reverse ps) ∙ ap is_quote (at ∙ same ∙ sym e))
+-- as many lists and quotes are open as the rules say
+opened_count : (x : Tree) (p : Progress) → Built x p → length (vec_items x.opened) ≡ length p.opened
+opened_count x p b = sym (length-reverse (vec_items x.opened)) ∙ each_length (OpenIs (vec_items x.cells)) (reverse (vec_items x.opened)) p.opened b.opened
 
-pub none_is_first : (ps : List Part) → length ps ≤ 0 → false ≡ quote_first (reverse ps)
-none_is_first [] l = refl
-none_is_first (p ∷ ps) l = absurd (omega arith)
+start_is : (os : List PureOpen) (n begun at : ℕ) → n ≡ length os → cond (eqb n 0) at begun ≡ start os begun at
+start_is [] n begun at e = ap (λ n. cond (eqb n 0) at begun) e
+start_is (o ∷ os) n begun at e = cond-false (eqb n 0) at begun (ne_eqb n 0 (λ z. omega arith))
+
+-- an item begins the form where no list or quote is open
+pub begun_at : (x y : Tree) (at : ℕ) → y.begun ≡ cond (eqb (length (vec_items x.opened)) 0) at x.begun → vec_items y.opened ≡ vec_items x.opened → vec_items y.cells ≡ vec_items x.cells → vec_items y.forms ≡ vec_items x.forms → (p : Progress) → Built x p → Built y (record { opened = p.opened; begun = start p.opened p.begun at; forms = p.forms })
+begun_at x y at e opened cells forms p b = record {
+  opened = subst (λ (cs : List Cell). Opened cs (reverse (vec_items y.opened)) p.opened) (sym cells) (subst (λ (os : List Open). Opened (vec_items x.cells) (reverse os) p.opened) (sym opened) b.opened);
+  begun = e ∙ ap (λ n. cond (eqb (length (vec_items x.opened)) 0) at n) b.begun ∙ start_is p.opened (length (vec_items x.opened)) p.begun at (opened_count x p b);
+  forms = subst (λ (cs : List Cell). Forms cs (vec_items y.forms) (reverse p.forms)) (sym cells) (subst (λ (fs : List Form). Forms (vec_items x.cells) fs (reverse p.forms)) (sym forms) b.forms);
+}
+
+-- y is x after a list or a quote was opened at an offset
+pub record OpenedAt (x y : Tree) (o : Open) (at : ℕ) : Type 0 where
+  pub room : length (vec_items x.opened) < 64
+  pub home : y.home ≡ x.home
+  pub begun : y.begun ≡ cond (eqb (length (vec_items x.opened)) 0) at x.begun
+  pub opened : vec_items y.opened ≡ vec_items x.opened ++ o ∷ []
+  pub cells : vec_items y.cells ≡ vec_items x.cells
+  pub forms : vec_items y.forms ≡ vec_items x.forms
+
+pub opened_nests : (x y : Tree) (o : Open) (at : ℕ) → OpenedAt x y o at → (q : PureOpen) → OpenIs (vec_items x.cells) o q → (p : Progress) → Built x p → Went (nest p at q) x y (Ok tt)
+opened_nests x y o at s q i p b = (
+  record { opened = q ∷ p.opened; begun = start p.opened p.begun at; forms = p.forms },
+  cond-false (leb 64 (length p.opened)) _ _ (lt-leb 64 (length p.opened) (omega (arith, s.room, opened_count x p b))),
+  record {
+    opened =
+        let held : Opened (vec_items x.cells) (o ∷ reverse (vec_items x.opened)) (q ∷ p.opened) = (i, b.opened) in
+        subst (λ (cs : List Cell). Opened cs (reverse (vec_items y.opened)) (q ∷ p.opened)) (sym s.cells) (subst (λ (os : List Open). Opened (vec_items x.cells) os (q ∷ p.opened)) (sym (newest _ _ o s.opened)) held);
+    begun = s.begun ∙ ap (λ n. cond (eqb (length (vec_items x.opened)) 0) at n) b.begun ∙ start_is p.opened (length (vec_items x.opened)) p.begun at (opened_count x p b);
+    forms = subst (λ (cs : List Cell). Forms cs (vec_items y.forms) (reverse p.forms)) (sym s.cells) (subst (λ (fs : List Form). Forms (vec_items x.cells) fs (reverse p.forms)) (sym s.forms) b.forms);
+  },
+  s.home,
+)
+
+-- where 64 are open, no more are
+pub too_deep : (x y : Tree) (at : ℕ) (q : PureOpen) (f : ReadFault) → 64 ≤ length (vec_items x.opened) → RefusedAs {A = Progress} (refused Cause.NestedTooDeep at) x.home.«module» f → (p : Progress) → Built x p → Went (nest p at q) x y (Err f)
+too_deep x y at q f l r p b = subst (λ (o : Read Progress). RefusedAs o x.home.«module» f) (sym (cond-true (leb 64 (length p.opened)) _ _ (le-leb 64 (length p.opened) (omega (arith, opened_count x p b))))) r
+
+-- a step from a tree that is at home where x is
+went_from : (x z y : Tree) (o : Read Progress) (r : Result (Unit {0}) ReadFault) → z.home ≡ x.home → Went o z y r → Went o x y r
+went_from x z y o (Ok u) e w = (w.0, w.1, w.2, w.3 ∙ e)
+went_from x z y o (Err f) e w = subst (λ (h : Home). RefusedAs o h.«module» f) e w
+
+-- a list closes, and what is added after it is as the rules say
+pub list_closed : (x z y : Tree) (at : ℕ) (vs : Vec Value Global) (list : Value) (r : Result (Unit {0}) ReadFault) → Beside x z → vec_items x.opened ≡ vec_items z.opened ++ Open.List vs ∷ [] → Listed (vec_items x.cells) (vec_items z.cells) (vec_items vs) list → ((d : Datum) → Stands (vec_items z.cells) list d → Steps (λ h p. reads (settle h p.begun p.forms p.opened d)) z y r) → Steps (λ h p. close h at p.begun p.forms p.opened) x y r
+list_closed x z y at vs list r k n l add p b = by p.opened b (subst (λ (os : List Open). Opened (vec_items x.cells) os p.opened) (newest _ _ (Open.List vs) n) b.opened)
+  where
+    by : (os : List PureOpen) → Built x p → Opened (vec_items x.cells) (Open.List vs ∷ reverse (vec_items z.opened)) os → Went (close (home_of x.home) at p.begun p.forms os) x y r
+    by [] b o = absurd o
+    by (quoted ∷ os) b o = absurd o.0
+    by (bracket ds ∷ os) b o =
+        went_from x z y (reads (settle (home_of x.home) p.begun p.forms os (list_of (reverse ds)))) r k.home (rw (← k.home) (add (list_of (reverse ds)) (l.each (reverse ds) o.0) (record { opened = os; begun = p.begun; forms = p.forms }) (built_beside x z p os k o.1 b)))
+
+-- a refusal of one reading is a refusal of another
+pub refused_through : {A B : Type 0} (o : Read A) (u : Read B) (m : Word) → ((c : Cause) (k : ℕ) → o ≡ refused c k → u ≡ refused c k) → (f : ReadFault) → RefusedAs o m f → RefusedAs u m f
+refused_through o u m through (Refused f) (c, k, e, g) = (c, k, through c k e, g)
+refused_through o u m through Memory r = tt
+
+-- the text ends inside a list or after a quote
+pub ended_inside : (x : Tree) (end : ℕ) (f : ReadFault) → 0 < length (vec_items x.opened) → RefusedAs {A = Progress} (refused Cause.Unbalanced end) x.home.«module» f → (p : Progress) → Built x p → RefusedAs (ended end p.forms p.opened) x.home.«module» f
+ended_inside x end f l r p b = by p.opened (opened_count x p b)
+  where
+    by : (os : List PureOpen) → length (vec_items x.opened) ≡ length os → RefusedAs (ended end p.forms os) x.home.«module» f
+    by [] e = absurd (omega arith)
+    by (q ∷ os) e = refused_through (refused Cause.Unbalanced end) _ x.home.«module» (λ c k e. cc) f r

@@ -1,6 +1,6 @@
 -- How values and cells stand for pure data. Assumes nothing.
-use Rattle.std.specs.Prelude.{◌≡◌, ℕ, ◌<◌, List, ◌++◌, length, pos, slice_index_or}
-use Rattle.rules.specs.Words.{Datum, number, word, empty, pair}
+use Rattle.std.specs.Prelude.{◌≡◌, ℕ, ◌<◌, List, [], ◌∷◌, ◌++◌, length, pos, slice_index_or}
+use Rattle.rules.specs.Words.{Datum, number, word, empty, pair, list_of}
 use Rattle.rules.specs.Reading.{quote_of}
 use Rattle.word.specs.declared.name.Name.{Name}
 use Rattle.word.specs.declared.home.Home.{Home}
@@ -23,6 +23,13 @@ Means cs n v (pair a b) = (i : ℕ) × (v ≡ Value.Pair i) × (i < n) × Means 
 abbrev pub Stands : List Cell → Value → Datum → Type 0
 Stands cs v d = Means cs (length cs) v d
 
+-- R holds of two lists, element by element
+abbrev pub Each : {A B : Type 0} → (A → B → Type 0) → List A → List B → Type 0
+Each R [] [] = Unit {0}
+Each R [] (y ∷ ys) = ⊥
+Each R (x ∷ xs) [] = ⊥
+Each R (x ∷ xs) (y ∷ ys) = R x y × Each R xs ys
+
 -- cells are only ever added
 abbrev pub Grows : List Cell → List Cell → Type 0
 Grows cs es = (ds : List Cell) × (es ≡ cs ++ ds)
@@ -31,3 +38,8 @@ Grows cs es = (ds : List Cell) × (es ≡ cs ++ ds)
 pub record Quoted (cs es : List Cell) (h : Home) (v w : Value) : Type 0 where
   pub grown : Grows cs es
   pub each : (d : Datum) → Stands cs v d → Stands es w (quote_of (home_of h) d)
+
+-- what stood for some data now stands for their list
+pub record Listed (cs es : List Cell) (vs : List Value) (w : Value) : Type 0 where
+  pub grown : Grows cs es
+  pub each : (ds : List Datum) → Each (Stands cs) vs ds → Stands es w (list_of ds)

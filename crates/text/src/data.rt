@@ -1,7 +1,7 @@
 //! Data: values, and the cells of their pairs.
 ghost use Rattle.std.specs.Prelude.{◌≡◌, [], ◌∷◌, ◌++◌, length, IfOk};
 ghost use Rattle.text.specs.declared.data.Value.{Value};
-ghost use Rattle.text.specs.Data.{Quoted};
+ghost use Rattle.text.specs.Data.{Listed, Quoted};
 
 use std::alloc::AllocError;
 use word::{Home, Name, Word};
@@ -37,6 +37,17 @@ pub fn push_pair(cells: &mut Vec<Cell>, head: Value, tail: Value) -> Result<Valu
     let at = cells.len();
     cells.push(Cell { head, tail })?;
     Ok(Value::Pair(at))
+}
+
+/// The list of some values, from its end on, so that each pair has its tail in an earlier cell.
+pub(crate) fn push_list(cells: &mut Vec<Cell>, items: &[Value]) -> Result<Value, AllocError>
+    ensures { IfOk result (Listed cells.old.items cells.new.items items.now) }
+{
+    let mut list = Value::Empty;
+    for &item in items.iter().rev() {
+        list = push_pair(cells, item, list)?;
+    }
+    Ok(list)
 }
 
 /// The list `(quote datum)`.

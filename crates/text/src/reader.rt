@@ -2,25 +2,25 @@
 ghost use Rattle.std.specs.Prelude.{◌≡◌, ◌<◌, ◌≤◌, [], length, if◌then◌else◌, nat_eq, slice_index};
 ghost use Rattle.rules.specs.Words.{text_home};
 ghost use Rattle.rules.specs.Reading.{Progress, reads, mark, placed, item_of, read};
-ghost use Rattle.word.specs.Words.{spelling, home_of};
-ghost use Rattle.text.specs.Tree.{Built, Went, Finished, Within};
+ghost use Rattle.word.specs.Words.{spelling};
+ghost use Rattle.text.specs.Tree.{Built, Steps, Finished, Within};
 ghost use Rattle.text.specs.Reads.{Stepped, from};
 
 use crate::item::item_value;
 use crate::refusal::ReadFault;
-use crate::tree::{Part, Text, Tree};
+use crate::tree::{Text, Tree};
 use rules::Cause;
 use std::alloc::Global;
 use word::{Home, Word, is_item_byte};
 
 // A byte that is part of no item.
 fn mark(tree: &mut Tree, b: u8, at: usize) -> Result<(), ReadFault>
-    ensures { (p : Progress) → Built tree.old p → Went (mark (home_of tree.old.home) b at p) tree.old tree.new result }
+    ensures { Steps (λ h. mark h b at) tree.old tree.new result }
 {
     match b as char {
         ' ' | '\n' => Ok(()),
-        '(' => tree.open(Part::Bracket, at),
-        '\'' => tree.open(Part::Quote, at),
+        '(' => tree.open_list(at),
+        '\'' => tree.open_quote(at),
         ')' => tree.close(at),
         _ => Err(tree.refuse(Cause::StrayByte, at)),
     }
@@ -28,7 +28,7 @@ fn mark(tree: &mut Tree, b: u8, at: usize) -> Result<(), ReadFault>
 
 // The item of these bytes, if there are any, which begins at an offset.
 fn end_item(tree: &mut Tree, item: &[u8], start: usize) -> Result<(), ReadFault>
-    ensures { (p : Progress) → Built tree.old p → Went (if nat_eq (length item.now) 0 then reads p else placed (home_of tree.old.home) start p (item_of (home_of tree.old.home) item.now)) tree.old tree.new result }
+    ensures { Steps (λ h p. if nat_eq (length item.now) 0 then reads p else placed h start p (item_of h item.now)) tree.old tree.new result }
 {
     if item.is_empty() {
         return Ok(());

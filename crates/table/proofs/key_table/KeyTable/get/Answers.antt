@@ -1,18 +1,18 @@
-use Rattle.std.proofs.Common.{sym}
-use Rattle.table.proofs.Entries.{at_item, blank_else, look_hit, look_miss, look_blank, look_end}
+use Rattle.std.proofs.Common.{◌≡◌, refl, subst, ◌∙◌}
+use Rattle.std.specs.Option.{option_map}
+use Rattle.table.specs.Entries.{look}
+use Rattle.table.proofs.Places.{look_none, look_at}
 use Rattle.table.proofs.key_table.KeyTable.get.Goals as goal
-use Rattle.table.proofs.key_table.KeyTable.get.Goals.{in-Held+else-same, in_default}
 
-pub returns-then-same : goal.returns-then-same
-returns-then-same g c =
-    look_hit g.K.Key.like c.args.self.now.entries.now c.loop-entry.entry-index c.args.key.now _ _ (at_item _ _ _ _ c.loop-entry-test.true c.entry-item.is c.in-Held.is) (sym c.if-same.ensures) c.loop-entry.invariant
-
-pub loop-entry-preserved : goal.loop-entry-preserved
-loop-entry-preserved g c =
-    elim c.match-entry.branch [
-      | in-Held+else-same w ↦ look_miss g.K.Key.like c.args.self.now.entries.now c.loop-entry.entry-index c.args.key.now _ _ (at_item _ _ _ _ c.loop-entry-test.true c.entry-item.is w.in-Held.is) (sym w.if-same.ensures) c.loop-entry.invariant
-      | in_default w ↦ look_blank g.K.Key.like c.args.self.now.entries.now c.loop-entry.entry-index c.args.key.now (at_item _ _ _ _ c.loop-entry-test.true c.entry-item.is (blank_else _ w.in_default.not-Held)) c.loop-entry.invariant
-    ]
+pub returns-in_err-at : goal.returns-in_err-at
+returns-in_err-at g c = c.from_residual.ensures ∙ look_none g.K.PartialEq.eq c.args.key.now c.args.self.now.entries.now c.in_err-at.ensures.value
 
 pub returns : goal.returns
-returns g c = look_end g.K.Key.like c.args.self.now.entries.now c.loop-entry.entry-index c.args.key.now c.loop-entry-test.false c.loop-entry.invariant
+returns g c =
+    let es = c.args.self.now.entries.now in
+    subst (λ o. option_map (λ e. e.value) o ≡ look g.K.PartialEq.eq es c.args.key.now) c.in_ok-self.was (look_at g.K.PartialEq.eq c.args.key.now es c.in_ok-at.at c.index-self-at.result _ c.in_ok-at.ensures.value refl)
+
+pub returns-in_err-self : goal.returns-in_err-self
+returns-in_err-self g c =
+    let es = c.args.self.now.entries.now in
+    c.from_residual-in_err-self.ensures ∙ subst (λ o. option_map (λ e. e.value) o ≡ look g.K.PartialEq.eq es c.args.key.now) c.in_err-self.was (look_at g.K.PartialEq.eq c.args.key.now es c.in_ok-at.at c.index-self-at.result _ c.in_ok-at.ensures.value refl)

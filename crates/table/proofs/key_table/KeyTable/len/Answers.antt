@@ -1,13 +1,10 @@
-use Rattle.table.proofs.Entries.{at_item, blank_else, held_one, held_none, held_end}
+use Rattle.std.proofs.Common.{◌≡◌, is_some, sym, ◌∙◌, arith}
+use Rattle.std.proofs.lemmas.Grind.{common_steps}
+use Rattle.std.specs.List.{count_by}
+use Rattle.table.proofs.Places.{held_is}
 use Rattle.table.proofs.key_table.KeyTable.len.Goals as goal
-use Rattle.table.proofs.key_table.KeyTable.len.Goals.{in-Held, in_default}
-
-pub loop-entry-preserved : goal.loop-entry-preserved
-loop-entry-preserved g c =
-    elim c.match-entry.branch [
-      | in-Held w ↦ held_one _ _ _ _ _ _ w.count-is (at_item _ _ _ _ c.loop-entry-test.true c.entry-item.is w.in-Held.is) c.loop-entry.invariant
-      | in_default w ↦ held_none _ _ _ _ w.count-is (at_item _ _ _ _ c.loop-entry-test.true c.entry-item.is (blank_else _ w.in_default.not-Held)) c.loop-entry.invariant
-    ]
 
 pub returns : goal.returns
-returns g c = held_end _ _ _ c.loop-entry-test.false c.loop-entry.invariant.1
+returns g c =
+    let t : c.count.result ≡ count_by is_some c.args.self.now.entries.now = grind (arith, common_steps) in
+    t ∙ sym (held_is c.args.self.now.entries.now)

@@ -11,7 +11,7 @@ pub returns : goal.returns
 returns g c =
     let h : length c.loop-entry.entries ≤ c.loop-entry.entry-index = omega arith in
     record {
-      none = λ k. blanked_look g.K.Key.like c.loop-entry.entries c.loop-entry.entry-index k h c.loop-entry.invariant;
+      none = λ k. blanked_look g.K.PartialEq.eq c.loop-entry.entries c.loop-entry.entry-index k h c.loop-entry.invariant;
       count = blanked_held c.loop-entry.entries c.loop-entry.entry-index h c.loop-entry.invariant;
       room = omega arith;
     }

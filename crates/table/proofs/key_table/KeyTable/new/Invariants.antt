@@ -1,6 +1,5 @@
-use Rattle.std.proofs.Common.{◌≡◌, take, replicate}
-use Rattle.table.specs.declared.key_table.Entry.TheVariants.{Blank}
+use Rattle.std.proofs.Common.{◌≡◌, take, replicate, None}
 use Rattle.table.proofs.key_table.KeyTable.new.Given as goal
 
 abbrev pub invariant-loop-entry : goal.invariant-loop-entry
-invariant-loop-entry g l = take l.entry-index l.entries ≡ replicate l.entry-index Blank
+invariant-loop-entry g l = take l.entry-index l.entries ≡ replicate l.entry-index None

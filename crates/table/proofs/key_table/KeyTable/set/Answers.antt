@@ -1,20 +1,22 @@
-use Rattle.std.proofs.Common.{refl, length-set}
+use Rattle.std.proofs.Common.{◌≡◌, Some, None, refl, sym, ◌∙◌, length-set, arith}
+use Rattle.std.proofs.lemmas.Result.{err_from_is_err_and}
 use Rattle.table.proofs.Places.{no_place, put_maps, put_count, put_fits}
 use Rattle.table.proofs.key_table.KeyTable.set.Goals as goal
 
-pub returns-then-at-self : goal.returns-then-at-self
-returns-then-at-self g c =
-    let h = no_place g.K.Key.like c.args.self.now.entries.now c.args.key c.place-at.result c.place-at.ensures c.if-at-self.true in
-    record { cases = record { absent = h.0; full = h.1; maps = λ k. refl; count = refl; room = refl }; named = refl }
+pub returns-in_err-at-clause-cases : goal.returns-in_err-at-clause-cases
+returns-in_err-at-clause-cases g c =
+    let none : c.place.result ≡ None = grind arith in
+    let r = err_from_is_err_and c.from_residual.result c.from_residual.ensures.1 in
+    let h = no_place g.K.PartialEq.eq c.args.self.now.entries.now c.args.key (sym none ∙ c.place.ensures.value) in
+    rw r.1 (record { absent = h.0; full = h.1; maps = λ k. refl; count = refl; room = refl })
 
-pub returns : goal.returns
-returns g c =
+pub returns-clause-cases : goal.returns-clause-cases
+returns-clause-cases g c =
+    let there : c.place.result ≡ Some c.in_ok-at.at = grind arith in
+    let is = sym there ∙ c.place.ensures.value in
     record {
-      cases = record {
-        maps = λ k. put_maps g.K.Key.like c.args.self.now.entries.now c.args.key c.place-at.result c.place-at.ensures g.met.K.Key.equivalence c.args.value k c.if-at-self.false;
-        count = put_count g.K.Key.like c.args.self.now.entries.now c.args.key c.place-at.result c.place-at.ensures c.args.value c.if-at-self.false;
-        room = length-set _ _ _;
-        fits = put_fits g.K.Key.like c.args.self.now.entries.now c.args.key c.place-at.result c.place-at.ensures c.if-at-self.false;
-      };
-      named = refl;
+      maps = λ k. put_maps g.K.PartialEq.eq c.args.self.now.entries.now c.args.key c.in_ok-at.at is g.met.K.Eq.laws c.args.value k;
+      count = put_count g.K.PartialEq.eq c.args.self.now.entries.now c.args.key c.in_ok-at.at is c.args.value;
+      room = length-set _ _ _;
+      fits = put_fits g.K.PartialEq.eq c.args.self.now.entries.now c.args.key c.in_ok-at.at is;
     }

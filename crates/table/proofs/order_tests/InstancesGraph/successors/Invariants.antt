@@ -1,5 +1,5 @@
 use Rattle.std.proofs.Common.{◌≡◌, ◌+◌, min, map, take, vec_items, filter}
-use Rattle.table.specs.Keys.{same_spelling}
+use Rattle.word.specs.Words.{same_spelling}
 use Rattle.table.proofs.order_tests.InstancesGraph.successors.Given as goal
 
 abbrev pub invariant-loop-r : goal.invariant-loop-r

@@ -1,5 +1,5 @@
 use Rattle.std.proofs.Common.{◌≡◌, map, take, vec_items, filter}
-use Rattle.table.specs.Keys.{same_spelling}
+use Rattle.word.specs.Words.{same_spelling}
 use Rattle.table.proofs.order_tests.ModulesGraph.successors.Given as goal
 
 abbrev pub invariant-loop-r : goal.invariant-loop-r

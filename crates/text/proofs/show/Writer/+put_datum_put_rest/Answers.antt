@@ -30,7 +30,7 @@ put_datum-returns-then-i-below-clause-written t c d m l =
 pub put_datum-returns-clause-written : goal.put_datum-returns-clause-written
 put_datum-returns-clause-written t c =
     IfOk-weaker c.put_rest.result _ _ (λ _ f.
-    pair_written _ _ c.args.below c.in-Pair.i c.args.value _ _ _ _ (ap (λ (x : Bor (List Cell)). x.now) c.in_ok-put_datum.ensures.kept) c.in-Pair.is c.in_ok-push.ensures.items c.in_ok-put_datum.ensures.written f) c.put_rest.ensures.written
+    pair_written _ _ c.args.below c.in-Pair.i c.args.value _ _ _ _ c.in_ok-put_datum.ensures.kept c.in-Pair.is c.in_ok-push.ensures.items c.in_ok-put_datum.ensures.written f) c.put_rest.ensures.written
 
 pub put_rest-returns-then-i-below-clause-written : goal.put_rest-returns-then-i-below-clause-written
 put_rest-returns-then-i-below-clause-written t c d m l =
@@ -45,7 +45,7 @@ pub put_rest-elements-preserved : goal.put_rest-elements-preserved
 put_rest-elements-preserved t c = record {
   kept = c.in_ok-put_datum.ensures.kept ∙ c.elements.invariant.kept;
   below = omega arith;
-  rest = λ d m l. resting_more _ _ c.args.below c.args.value _ c.elements.below c.in-Pair.i _ _ _ d c.elements.value (ap (λ (x : Bor (List Cell)). x.now) c.elements.invariant.kept) c.in-Pair.is c.in_ok-push.ensures.items c.in_ok-put_datum.ensures.written (c.elements.invariant.rest d m l);
+  rest = λ d m l. resting_more _ _ c.args.below c.args.value _ c.elements.below c.in-Pair.i _ _ _ d c.elements.value c.elements.invariant.kept c.in-Pair.is c.in_ok-push.ensures.items c.in_ok-put_datum.ensures.written (c.elements.invariant.rest d m l);
 }
 
 pub put_rest-returns-in-Empty : goal.put_rest-returns-in-Empty
@@ -58,5 +58,5 @@ pub put_rest-returns : goal.put_rest-returns
 put_rest-returns t c = record {
   kept = c.in_ok-put_datum-2.ensures.kept ∙ c.elements.invariant.kept;
   written = λ d m l.
-      ended_atom _ _ c.args.below c.elements.below c.args.value c.elements.value _ _ _ _ _ d (ap (λ (x : Bor (List Cell)). x.now) c.elements.invariant.kept) c.in_default.not-Pair c.in_default-value.not-Empty c.in_ok-extend_from_slice.ensures.items c.in_ok-put_datum-2.ensures.written c.in_ok-push-3.ensures.items (c.elements.invariant.rest d m l);
+      ended_atom _ _ c.args.below c.elements.below c.args.value c.elements.value _ _ _ _ _ d c.elements.invariant.kept c.in_default.not-Pair c.in_default-value.not-Empty c.in_ok-extend_from_slice.ensures.items c.in_ok-put_datum-2.ensures.written c.in_ok-push-3.ensures.items (c.elements.invariant.rest d m l);
 }

@@ -1,7 +1,8 @@
 use Rattle.std.proofs.Common.{refl}
-use Rattle.text.proofs.Steps.{list_closed}
+use Rattle.text.proofs.Trees.{list_closed}
 use Rattle.text.proofs.tree.Tree.close.Goals as goal
 
-pub returns : goal.returns
-returns c =
-    list_closed c.args.self.now _ c.add.new.self c.args.at _ _ c.add.result c.in-Some.is c.in_ok-list.ensures refl refl c.saturating_sub-self.ensures refl c.add.ensures
+pub returns-in_ok-list-in-Some-List : goal.returns-in_ok-list-in-Some-List
+returns-in_ok-list-in-Some-List c =
+    let l = rw c.deref.ensures.value at c.in_ok-list-in-Some-List.ensures in
+    list_closed c.args.self.now _ c.add.new.self c.args.at c.in-Some-List.items _ c.add.result (record { home = refl; begun = refl; grown = l.grown; forms = refl }) (rw c.in-Some-List.field-0-is at c.in-Some-List.ensures.items) l c.add.ensures

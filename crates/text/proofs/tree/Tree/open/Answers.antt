@@ -1,15 +1,17 @@
-use Rattle.std.proofs.Common.{refl, rules}
-use Rattle.text.proofs.Steps.{part_nested}
+use Rattle.std.proofs.Common.{refl, arith}
+use Rattle.text.proofs.Trees.{opened_nests, too_deep}
 use Rattle.text.proofs.tree.Tree.open.Goals as goal
 
 pub returns : goal.returns
 returns c =
-    part_nested _ _ c.args.part c.args.at (record {
-      room = search rules;
+    opened_nests c.args.self.now _ c.args.part c.args.at (record {
+      room = omega arith;
       home = refl;
       begun = c.start-self.ensures;
-      depth = refl;
-      parts = c.in_ok-push.ensures.items;
+      opened = c.in_ok-push.ensures.items;
       cells = refl;
       forms = refl;
     })
+
+pub returns-then-len-ge64 : goal.returns-then-len-ge64
+returns-then-len-ge64 c q i = too_deep c.args.self.now c.args.self.now c.args.at q _ (omega arith) c.refuse.ensures

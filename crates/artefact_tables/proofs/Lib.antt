@@ -1,4 +1,0 @@
-mod Puts
-mod Tables
-mod Artefacts
-mod Pages

@@ -1,7 +1,0 @@
-use Rattle.std.proofs.lemmas.Result.{IfOk-weaker}
-use Rattle.artefact_tables.proofs.Puts.{five_put}
-use Rattle.artefact_tables.proofs.line.put_five.Goals as goal
-
-pub returns : goal.returns
-returns c =
-    IfOk-weaker c.put_field-5.result _ _ (λ _ k. five_put _ _ _ _ _ _ c.args.a.now c.args.b.now c.args.c.now c.args.d.now c.args.e.now c.in_ok-put_field.ensures c.in_ok-put_field-2.ensures c.in_ok-put_field-3.ensures c.in_ok-put_field-4.ensures k) c.put_field-5.ensures
