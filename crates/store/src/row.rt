@@ -51,7 +51,8 @@ struct Head<L> {
     len: L,
 }
 
-/// Room for one entry.
+/// Room for one entry. Callers fill arrays with rows, so a row is `Copy`: contracts see it through `row_says`, since a model
+/// that forgets bytes cannot be copied.
 #[derive(Clone, Copy)]
 pub struct Row<L, const ROOM: usize> {
     head: Option<Head<L>>,
