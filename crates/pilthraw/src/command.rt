@@ -4,7 +4,7 @@ use store::{Change, Key};
 use word::{NotAWord, Word};
 
 /// What a store is to be made of: slots, under so many drafts.
-#[derive(Clone, Copy)]
+#[derive(Clone, Copy, PartialEq, Eq, Debug)]
 pub(crate) enum Plan {
     Slots(usize),
     Drafts(usize),
@@ -12,7 +12,7 @@ pub(crate) enum Plan {
 }
 
 /// A command. One that is followed by bytes has them read also where its name is wrong, so it keeps what is wrong with it.
-#[derive(Clone, Copy)]
+#[derive(Clone, Copy, PartialEq, Eq, Debug)]
 pub(crate) enum Command {
     Read {
         name: Result<Word, NotAWord>,

@@ -40,7 +40,7 @@ impl<'a> Console<'a> {
             return self.serve(&mut Slots::new(&mut []));
         };
         self.done()?;
-        let slots = Slots::new(memory.as_mut_slice());
+        let slots = Slots::new(&mut memory);
         match plan {
             Plan::Slots(_) => {
                 let mut store = slots;
@@ -58,7 +58,7 @@ impl<'a> Console<'a> {
             let Some(line) = self.input.line()? else {
                 return Ok(None);
             };
-            match Command::try_from(line.as_slice()) {
+            match Command::try_from(&line[..]) {
                 Ok(Command::Make(plan)) => return Ok(Some(plan)),
                 Ok(command) => self.obey(store, command)?,
                 Err(mistake) => self.mistaken(mistake)?,

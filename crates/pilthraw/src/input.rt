@@ -36,7 +36,7 @@ impl Input {
     pub(crate) fn counted(&mut self, count: usize) -> io::Result<Result<Vec<u8>, Mistake>> {
         let mut bytes = vec![in self.heap; 0u8; count]?;
         let mut end = [0u8];
-        let whole = self.source.read_exact(bytes.as_mut_slice()).is_ok()
+        let whole = self.source.read_exact(&mut bytes).is_ok()
             && self.source.read_exact(&mut end).is_ok();
         if whole && end == [b'\n'] {
             Ok(Ok(bytes))

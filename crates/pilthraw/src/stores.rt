@@ -12,7 +12,7 @@ impl Console<'_> {
     ) -> anyhow::Result<()> {
         let bytes = self.input.counted(count)?;
         match (bytes, key) {
-            (Ok(bytes), Ok(key)) => self.taken(store.put(key, bytes.as_slice())),
+            (Ok(bytes), Ok(key)) => self.taken(store.put(key, &bytes)),
             (Err(mistake), _) | (Ok(_), Err(mistake)) => self.mistaken(mistake),
         }
     }
@@ -29,10 +29,10 @@ impl Console<'_> {
         let Ok(mut out) = vec![in self.rt.alloc(); 0u8; buffer] else {
             return self.mistaken(Mistake::NoBuffer);
         };
-        match store.fetch(key, out.as_mut_slice()) {
+        match store.fetch(key, &mut out) {
             Ok(n) => {
                 out.truncate(n);
-                return self.answer(out.as_slice());
+                return self.answer(&out);
             }
             Err(Miss::Absent) => println!(self.rt; "nothing")?,
             Err(Miss::Short) => println!(self.rt; "short")?,

@@ -20,11 +20,11 @@ impl Console<'_> {
         let Ok(name) = name else {
             return self.refused(Refusal::bare(Cause::NotAWord));
         };
-        match text::read(self.rt.alloc(), name, bytes.as_slice()) {
+        match text::read(self.rt.alloc(), name, &bytes) {
             Ok(text) => {
                 println!(self.rt; "forms {}", text.forms.len())?;
                 let listing = text.listing(self.rt.alloc())?;
-                self.rt.stdout().write_all(listing.as_slice())?;
+                self.rt.stdout().write_all(&listing)?;
                 Ok(())
             }
             Err(ReadFault::Refused(refusal)) => self.refused(refusal),

@@ -8,7 +8,8 @@ ghost use Rattle.std.specs.Result.{result_ok};
 ghost use Rattle.word.specs.Words.{spelling};
 ghost use Rattle.store.specs.declared.Change.{Change};
 ghost use Rattle.store.specs.declared.Kind.{Kind};
-ghost use Rattle.store.specs.Maps.{kind_named, answered, fronted, Writes, Keeps};
+ghost use Rattle.store.specs.declared.Key.{Key};
+ghost use Rattle.store.specs.Maps.{same_kind, same_place, kind_named, answered, fronted, Writes, Keeps};
 
 mod copy;
 mod drafts;
@@ -62,6 +63,15 @@ impl FromStr for Kind {
 pub struct Key {
     pub name: Word,
     pub kind: Kind,
+}
+
+/// Kinds are equal where the maps of stores say that they are the same, and keys where they name one entry.
+pub fn keys_name_entries() -> bool
+    ensures yes { result ≡ true }
+    ensures kinds { (a b : Kind) → ⟦<Kind as PartialEq>⟧.eq a b ≡ same_kind a b }
+    ensures keys { (a b : Key) → ⟦<Key as PartialEq>⟧.eq a b ≡ same_place (spelling a.name) a.kind (spelling b.name) b.kind }
+{
+    true // for every two keys
 }
 
 /// A change of one entry: to that many bytes, or to nothing. It says which, as `None` in the place of a length would not.
