@@ -20,8 +20,7 @@ pub fn parse_number(bytes: &[u8]) -> Option<i32>
 {
     match bytes {
         [b'0'] => Some(0),
-        [b'1'..=b'9', ..] => parse_digits(bytes),
-        [b'-', b'1'..=b'9', ..] => parse_digits(bytes),
+        [b'1'..=b'9', ..] | [b'-', b'1'..=b'9', ..] => parse_digits(bytes),
         _ => None,
     }
 }
