@@ -1,3 +1,4 @@
 pub mod Forests
 mod Wholes
 pub mod Sayings
+mod Limited

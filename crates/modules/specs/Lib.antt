@@ -2,3 +2,4 @@ pub mod Says
 pub mod Limits
 pub mod Trees
 pub mod Whole
+pub mod Limited

@@ -2,7 +2,9 @@
 
 #![tactic(auto)]
 
+mod laws;
 mod module;
 mod whole;
 
+pub use laws::limits_agree;
 pub use module::{Definition, Kind, Module, Require, Row};
