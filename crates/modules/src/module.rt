@@ -38,7 +38,7 @@ pub enum Kind {
 }
 
 impl Kind {
-    /// Its name, which takes no memory as what `Display` prints would.
+    /// Its name, as a constant: what a `Display` prints has to be written somewhere first.
     pub fn as_str(self) -> &'static str
         ensures { result.now ≡ kind_title self }
     {

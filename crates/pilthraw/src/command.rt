@@ -3,12 +3,19 @@ use crate::mistake::Mistake;
 use store::{Change, Key};
 use word::{NotAWord, Word};
 
-/// What a store is to be made of: slots, under so many drafts.
+/// What a store is made of.
 #[derive(Clone, Copy, PartialEq, Eq, Debug)]
-pub(crate) enum Plan {
-    Slots(usize),
-    Drafts(usize),
-    DraftsOverDrafts(usize),
+pub(crate) enum Pile {
+    Slots,
+    Drafts,
+    DraftsOverDrafts,
+}
+
+/// What store is to be made, and with how many places.
+#[derive(Clone, Copy, PartialEq, Eq, Debug)]
+pub(crate) struct Plan {
+    pub(crate) pile: Pile,
+    pub(crate) places: usize,
 }
 
 /// A command. One that is followed by bytes has them read also where its name is wrong, so it keeps what is wrong with it.
@@ -53,12 +60,15 @@ impl TryFrom<&str> for Plan {
     type Error = Mistake;
 
     fn try_from(words: &str) -> Result<Plan, Mistake> {
-        match words.rsplit_once(' ') {
-            Some(("slots", places)) => Ok(Plan::Slots(places.parse()?)),
-            Some(("drafts slots", places)) => Ok(Plan::Drafts(places.parse()?)),
-            Some(("drafts drafts slots", places)) => Ok(Plan::DraftsOverDrafts(places.parse()?)),
-            _ => Err(Mistake::NoStore),
-        }
+        let (pile, places) = words.rsplit_once(' ').ok_or(Mistake::NoStore)?;
+        let pile = match pile {
+            "slots" => Pile::Slots,
+            "drafts slots" => Pile::Drafts,
+            "drafts drafts slots" => Pile::DraftsOverDrafts,
+            _ => return Err(Mistake::NoStore),
+        };
+        let places = places.parse()?;
+        Ok(Plan { pile, places })
     }
 }
 

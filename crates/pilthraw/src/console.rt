@@ -1,5 +1,5 @@
 //! The console: each line is a command, and has its reply.
-use crate::command::{Command, Plan};
+use crate::command::{Command, Pile, Plan};
 use crate::input::Input;
 use crate::mistake::Mistake;
 use store::{Drafts, Slot, Slots, Store};
@@ -22,7 +22,8 @@ impl<'a> Console<'a> {
     /// Answers commands until the input ends. At first there is a store with no places.
     pub(crate) fn run(&mut self) -> anyhow::Result<()> {
         let mut next = self.serve(&mut Slots::new(&mut []))?;
-        // The input may never end, and every loop is proved to: this one ends after more stores than any input asks for.
+        // The input may never end, every loop is proved to, and the repository allows no handle to wait: this one ends
+        // after more stores than any input asks for.
         for _ in 0..u64::MAX {
             let Some(plan) = next else {
                 return Ok(());
@@ -34,20 +35,19 @@ impl<'a> Console<'a> {
 
     // Makes a store, and answers commands with it.
     fn make_and_serve(&mut self, plan: Plan) -> anyhow::Result<Option<Plan>> {
-        let (Plan::Slots(places) | Plan::Drafts(places) | Plan::DraftsOverDrafts(places)) = plan;
-        let Ok(mut memory) = vec![in self.rt.alloc(); Slot::new(); places] else {
+        let Ok(mut memory) = vec![in self.rt.alloc(); Slot::new(); plan.places] else {
             self.mistaken(Mistake::NoPlaces)?;
             return self.serve(&mut Slots::new(&mut []));
         };
         self.done()?;
         let slots = Slots::new(&mut memory);
-        match plan {
-            Plan::Slots(_) => {
+        match plan.pile {
+            Pile::Slots => {
                 let mut store = slots;
                 self.serve(&mut store)
             }
-            Plan::Drafts(_) => self.serve(&mut Drafts::new(slots)),
-            Plan::DraftsOverDrafts(_) => self.serve(&mut Drafts::new(Drafts::new(slots))),
+            Pile::Drafts => self.serve(&mut Drafts::new(slots)),
+            Pile::DraftsOverDrafts => self.serve(&mut Drafts::new(Drafts::new(slots))),
         }
     }
 
@@ -73,9 +73,9 @@ impl<'a> Console<'a> {
             Command::Read { name, count } => self.read(name, count),
             Command::Put { key, count } => self.put(store, key, count),
             Command::Erase(key) => self.taken(store.remove(key)),
-            Command::Length(key) => self.length(store.length(key)),
+            Command::Length(key) => self.tell_length(store.length(key)),
             Command::Fetch { key, buffer } => self.fetch(store, key, buffer),
-            Command::Takes { key, change } => self.takes(store.takes(key, change)),
+            Command::Takes { key, change } => self.tell(store.takes(key, change)),
             Command::Make(_) => Ok(()),
         }
     }

@@ -21,38 +21,39 @@ pub(crate) enum Mistake {
 }
 
 impl From<ParseIntError> for Mistake {
-    fn from(_no: ParseIntError) -> Mistake {
+    fn from(_error: ParseIntError) -> Mistake {
         Mistake::NoNumber
     }
 }
 
 impl From<NotAWord> for Mistake {
-    fn from(_no: NotAWord) -> Mistake {
+    fn from(_error: NotAWord) -> Mistake {
         Mistake::NoName
     }
 }
 
 impl From<UnknownKind> for Mistake {
-    fn from(no: UnknownKind) -> Mistake {
-        Mistake::NoKind(no)
+    fn from(unknown: UnknownKind) -> Mistake {
+        Mistake::NoKind(unknown)
     }
 }
 
 impl Display for Mistake {
     fn fmt<W: fmt::Write>(&self, f: &mut fmt::Formatter<W>) -> fmt::Result {
-        f.write_str(match self {
-            Mistake::NoText => "the line is no text",
-            Mistake::NoCommand => "no such command, or not its words",
-            Mistake::NoStore => {
+        match self {
+            Mistake::NoText => write!(f, "the line is no text"),
+            Mistake::NoCommand => write!(f, "no such command, or not its words"),
+            Mistake::NoStore => write!(
+                f,
                 "store takes slots, drafts slots or drafts drafts slots, and a number of places"
-            }
-            Mistake::NoNumber => "a count is no number",
-            Mistake::NoName => "the name is no word",
-            Mistake::NoKind(no) => return no.fmt(f),
-            Mistake::OtherCount => "the bytes are not as many as their count says",
-            Mistake::NoPlaces => "there is no memory for so many places",
-            Mistake::NoBuffer => "there is no memory for the buffer",
-            Mistake::NoMemory => "there is no memory left",
-        })
+            ),
+            Mistake::NoNumber => write!(f, "a count is no number"),
+            Mistake::NoName => write!(f, "the name is no word"),
+            Mistake::NoKind(unknown) => write!(f, "{unknown}"),
+            Mistake::OtherCount => write!(f, "the bytes are not as many as their count says"),
+            Mistake::NoPlaces => write!(f, "there is no memory for so many places"),
+            Mistake::NoBuffer => write!(f, "there is no memory for the buffer"),
+            Mistake::NoMemory => write!(f, "there is no memory left"),
+        }
     }
 }

@@ -17,7 +17,7 @@ impl Console<'_> {
         }
     }
 
-    pub(crate) fn length(&self, length: Option<usize>) -> anyhow::Result<()> {
+    pub(crate) fn tell_length(&self, length: Option<usize>) -> anyhow::Result<()> {
         match length {
             Some(n) => println!(self.rt; "length {n}")?,
             None => println!(self.rt; "nothing")?,
@@ -40,7 +40,7 @@ impl Console<'_> {
         Ok(())
     }
 
-    pub(crate) fn takes(&self, yes: bool) -> anyhow::Result<()> {
+    pub(crate) fn tell(&self, yes: bool) -> anyhow::Result<()> {
         if yes {
             println!(self.rt; "yes")?;
         } else {

@@ -1,6 +1,7 @@
 -- A text that is no name of a primitive, or no reserved word.
 use Rattle.std.proofs.Common.{◌≡◌, Bool, true, false, cond, ◌||◌, List, [], ◌∷◌, is_some, Some, None, codes, Option, sym, refl, ap}
-use Rattle.std.specs.Prelude.{is_ok, Ok, Err, Result, MatchResult}
+use Rattle.std.specs.Prelude.{is_ok, Ok, Err, Result}
+use Rattle.std.specs.Result.{result_ok}
 use Rattle.rules.specs.declared.primitive.Primitive.{Primitive}
 use Rattle.std.specs.Str.{bytes_eq}
 use Rattle.std.proofs.lemmas.Slice.Eq.{bytes_eq-Decides}
@@ -35,9 +36,9 @@ names_none w add sub mul less same pair head tail is_pair is_number is_name prin
     (passed_over w _ _ _ print refl)))))))))))
 
 -- a text that parses names a primitive
-pub named_ok : {E : Type 0} (w : Spelling) (r : Result Primitive E) → MatchResult r (λ p. prim_named w ≡ Some p) (λ _. prim_named w ≡ None) → is_ok r ≡ is_some (prim_named w)
-named_ok w (Ok p) h = sym (ap is_some h)
-named_ok w (Err e) h = sym (ap is_some h)
+pub named_ok : {E : Type 0} (w : Spelling) (r : Result Primitive E) → result_ok r ≡ prim_named w → is_ok r ≡ is_some (prim_named w)
+named_ok w (Ok p) h = ap is_some h
+named_ok w (Err e) h = ap is_some h
 
 not_among : (w : Spelling) (vs : List Spelling) → All (Not w) vs → among w vs ≡ false
 not_among w [] h = refl

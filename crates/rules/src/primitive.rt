@@ -1,5 +1,6 @@
 //! The primitives.
-ghost use Rattle.std.specs.Prelude.{◌≡◌, Some, None, MatchResult};
+ghost use Rattle.std.specs.Prelude.{◌≡◌};
+ghost use Rattle.std.specs.Result.{result_ok};
 ghost use Rattle.rules.specs.Words.{prim_named, prim_spelling, arity_of};
 
 use std::str::FromStr;
@@ -28,7 +29,7 @@ pub struct UnknownPrimitive;
 impl FromStr for Primitive {
     type Err = UnknownPrimitive;
 
-    ghost from_str_gives = { λ text r. MatchResult r (λ p. prim_named text ≡ Some p) (λ _. prim_named text ≡ None) };
+    ghost from_str_gives = { λ text r. result_ok r ≡ prim_named text };
 
     fn from_str(text: &str) -> Result<Primitive, UnknownPrimitive> {
         match text {
@@ -50,7 +51,7 @@ impl FromStr for Primitive {
 }
 
 impl Primitive {
-    /// Its name, which takes no memory as what `Display` prints would.
+    /// Its name, as a constant: what a `Display` prints has to be written somewhere first.
     pub fn as_str(self) -> &'static str
         ensures { result.now ≡ prim_spelling self }
     {

@@ -51,8 +51,9 @@ struct Head<L> {
     len: L,
 }
 
-/// Room for one entry. Callers fill arrays with rows, so a row is `Copy`: contracts see it through `row_says`, since a model
-/// that forgets bytes cannot be copied.
+/// Room for one entry: an array with a length beside it, as this memory is fixed or lent. Callers fill arrays with rows, so
+/// a row is `Copy`: contracts see it through `row_says`, since a model that forgets bytes cannot be copied. Rows are not
+/// compared: bytes past the length say nothing.
 #[derive(Clone, Copy)]
 pub struct Row<L, const ROOM: usize> {
     head: Option<Head<L>>,

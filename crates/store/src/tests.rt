@@ -5,22 +5,17 @@ use word::Word;
 
 /// The text whose name is one letter.
 fn text(letter: u8) -> Result<Key, Fail> {
-    match Word::try_from(&[letter][..]) {
-        Ok(name) => Ok(Key {
-            name,
-            kind: Kind::Text,
-        }),
-        Err(_) => Err(Fail::new("no word")),
-    }
+    let name = Word::try_from(&[letter][..]).map_err(|_| Fail::new("no word"))?;
+    Ok(Key {
+        name,
+        kind: Kind::Text,
+    })
 }
 
 /// What stands, where it is one byte.
 fn byte_in<S: Store>(store: &S, key: Key) -> Option<u8> {
     let mut out = [0u8; 1];
-    match store.fetch(key, &mut out) {
-        Ok(_) => Some(out[0]),
-        Err(_) => None,
-    }
+    store.fetch(key, &mut out).ok().map(|_| out[0])
 }
 
 #[test]

@@ -1,5 +1,6 @@
 pub mod Amongs
 pub mod Entries
+pub mod Meetings
 pub mod Orders
 pub mod Places
 pub mod Walks

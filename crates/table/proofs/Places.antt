@@ -7,7 +7,8 @@ use Rattle.std.specs.Option.{option_map}
 use Rattle.std.specs.List.{position_or_len, count_by}
 use Rattle.std.specs.Option.{is_none}
 use Rattle.std.proofs.lemmas.List.Recursion.{is_position_or_len, is_count_by}
-use Rattle.table.specs.Entries.{look, find, first_blank, held, or_else, stands, place}
+use Rattle.table.specs.Entries.{look, find, first_blank, held, stands, place}
+use Rattle.std.specs.Option.{option_or}
 use Rattle.std.specs.Cmp.{IsEquivalence}
 
 -- what is like one of two keys is unlike the other, if those are unlike
@@ -152,7 +153,7 @@ module _ {K V : Type 0} (like : K → K → Bool) (es : List (Option (Entry K V)
   placed : (at : ℕ) → Some at ≡ place like es k → Placed like es k at
   placed at is = by_tests (ltb i (length es)) (ltb j (length es)) refl refl is
     where
-      by_tests : (b c : Bool) → ltb i (length es) ≡ b → ltb j (length es) ≡ c → Some at ≡ or_else (cond b (Some i) None) (cond c (Some j) None) → Placed like es k at
+      by_tests : (b c : Bool) → ltb i (length es) ≡ b → ltb j (length es) ≡ c → Some at ≡ option_or (cond b (Some i) None) (cond c (Some j) None) → Placed like es k at
       by_tests true c e f h = let a = ap index h in found (a ∙ sym (find_is like k es)) (omega (arith, a, ltb-true _ _ e))
       by_tests false true e f h = let a = ap index h in fresh (a ∙ sym (blank_is es)) (omega (arith, a, ltb-true _ _ f)) (key_missed e)
       by_tests false false e f h = absurd (clash (sym (ap is_some h)))
@@ -161,7 +162,7 @@ module _ {K V : Type 0} (like : K → K → Bool) (es : List (Option (Entry K V)
   pub no_place : None ≡ place like es k → (look like es k ≡ None) × (held es ≡ length es)
   no_place is = by_tests (ltb i (length es)) (ltb j (length es)) refl refl is
     where
-      by_tests : (b c : Bool) → ltb i (length es) ≡ b → ltb j (length es) ≡ c → None ≡ or_else (cond b (Some i) None) (cond c (Some j) None) → (look like es k ≡ None) × (held es ≡ length es)
+      by_tests : (b c : Bool) → ltb i (length es) ≡ b → ltb j (length es) ≡ c → None ≡ option_or (cond b (Some i) None) (cond c (Some j) None) → (look like es k ≡ None) × (held es ≡ length es)
       by_tests true c e f h = absurd (clash (ap is_some h))
       by_tests false true e f h = absurd (clash (ap is_some h))
       by_tests false false e f h =

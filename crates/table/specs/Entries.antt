@@ -1,6 +1,6 @@
 -- The entries of a table, and where in them a key stands. Assumes nothing.
 use Rattle.std.specs.Prelude.{ℕ, suc, Bool, false, cond, List, [], ◌∷◌, Some, None, Option, position}
-use Rattle.std.specs.Option.{is_none}
+use Rattle.std.specs.Option.{is_none, option_or}
 use Rattle.table.specs.declared.key_table.Entry.{Entry}
 
 -- the index of the first blank place, or the length
@@ -14,10 +14,6 @@ abbrev pub held : {K V : Type 0} → List (Option (Entry K V)) → ℕ
 held [] = 0
 held (None ∷ es) = held es
 held (Some e ∷ es) = suc (held es)
-
-abbrev pub or_else : {X : Type 0} → Option X → Option X → Option X
-or_else (Some x) o = Some x
-or_else None o = o
 
 module _ {K V : Type 0} (like : K → K → Bool) where
   abbrev pub stands : K → Option (Entry K V) → Bool
@@ -38,4 +34,4 @@ module _ {K V : Type 0} (like : K → K → Bool) where
 
   -- where a value for a key is written: where the key stands, else in the first blank place, if there is one
   abbrev pub place : List (Option (Entry K V)) → K → Option ℕ
-  place es k = or_else (position (stands k) es) (position is_none es)
+  place es k = option_or (position (stands k) es) (position is_none es)

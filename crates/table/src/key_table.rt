@@ -21,14 +21,19 @@ pub struct KeyTable<'a, K, V> {
     entries: &'a mut [Option<Entry<K, V>>],
 }
 
+// The first place where nothing stands.
+fn first_none<K, V>(entries: &[Option<Entry<K, V>>]) -> Option<usize>
+    ensures value { result ≡ position is_none entries.now }
+    ensures within { IfSome result (λ i. i < length entries.now) }
+{
+    entries.iter().position(|entry| entry.is_none())
+}
+
 // Whether the key stands there.
 fn stands<K: Eq, V>(entry: &Option<Entry<K, V>>, key: &K) -> bool
     ensures { result ≡ stands K.PartialEq.eq key.now entry.now }
 {
-    match entry {
-        Some(held) => held.key == *key,
-        None => false,
-    }
+    entry.as_ref().is_some_and(|held| held.key == *key)
 }
 
 impl<'a, K: Eq + Copy, V: Copy> KeyTable<'a, K, V> {
@@ -63,24 +68,18 @@ impl<'a, K: Eq + Copy, V: Copy> KeyTable<'a, K, V> {
         self.entries.iter().position(|entry| stands(entry, key))
     }
 
-    // The first place where nothing stands.
-    fn find_blank(&self) -> Option<usize>
-        ensures value { result ≡ position is_none self.now.entries.now }
-        ensures within { IfSome result (λ i. i < length self.now.entries.now) }
-    {
-        self.entries.iter().position(|entry| entry.is_none())
-    }
-
     // Where a value for the key is to be written.
     fn place(&self, key: &K) -> Option<usize>
         ensures value { result ≡ place K.PartialEq.eq self.now.entries.now key.now }
         ensures within { IfSome result (λ i. i < length self.now.entries.now) }
     {
-        // not by `or_else`: what its closure ensures does not reach the proof, with or without a clause
-        match self.find_key(key) {
-            Some(at) => Some(at),
-            None => self.find_blank(),
-        }
+        let entries: &[Option<Entry<K, V>>] = self.entries;
+        self.find_key(key).or_else(
+            || -> Option<usize>
+                ensures value { result ≡ position is_none entries.entry.now }
+                ensures within { IfSome result (λ i. i < length entries.entry.now) }
+            { first_none(entries) },
+        )
     }
 
     /// Lets the key stand with the value, in the place of the value that it stood with. Where it did not stand and there

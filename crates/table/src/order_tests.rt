@@ -1,11 +1,11 @@
 //! The order at two kinds of node: modules by name, and instances with a base.
-ghost use Rattle.std.specs.Prelude.{◌+◌, min, map, IfOk, if◌then◌else◌, Some, None, filter, nat_le};
+ghost use Rattle.std.specs.Prelude.{◌≡◌, ◌+◌, min, map, IfOk, if◌then◌else◌, Some, None, filter, nat_le};
 ghost use Rattle.table.specs.declared.order_tests.Fault.TheVariants.{Cycle, TooMany};
 ghost use Rattle.table.specs.Graphs.{RequiredFirst};
 ghost use Rattle.word.specs.Words.{same_spelling};
 
 use crate::{Graph, Halt, required_first};
-use std::alloc::Global;
+use std::alloc::{AllocError, Global};
 use std::convert::Infallible;
 use std::test::Fail;
 use word::{Home, Word};
@@ -22,6 +22,14 @@ pub struct Require {
 pub enum Fault {
     Cycle(Word),
     TooMany(Word),
+}
+
+// The modules that one requires.
+fn required_by(heap: Global, needs: &[Require], by: Word) -> Result<Vec<Word>, AllocError>
+    ensures { IfOk result (λ v. v.items ≡ map (λ r. r.from) (filter (λ r. same_spelling r.by by) needs.now)) }
+{
+    let required = needs.iter().filter(|r| r.by == by);
+    required.map(|r| r.from).collect(heap)
 }
 
 /// Modules by name, at most so many, with no cycle.
@@ -47,8 +55,7 @@ impl<'a> Graph for Modules<'a> {
         if met >= self.most {
             return Err(Halt::Refused(Fault::TooMany(node)));
         }
-        let required = self.needs.iter().filter(|r| r.by == node);
-        Ok(required.map(|r| r.from).collect(heap)?)
+        Ok(required_by(heap, self.needs, node)?)
     }
 
     fn cycle(&mut self, node: Word) -> Result<(), Halt<Word, Fault>> {

@@ -24,6 +24,10 @@ pub record SteppedTo (x y : Reader) (at b : ℕ) (p : Progress) : Type 0 where
   pub begun : y.start ≤ at + 1
   pub same : (rest : List ℕ) → from x at (b ∷ rest) p ≡ from y (at + 1) rest progress
 
-abbrev pub Stepped : Reader → Reader → ℕ → ℕ → Progress → Result (Unit {0}) ReadFault → Type 0
-Stepped x y at b p (Ok _) = SteppedTo x y at b p
-Stepped x y at b p (Err f) = (rest : List ℕ) → RefusedAs (from x at (b ∷ rest) p) x.tree.home.«module» f
+abbrev pub SteppedAs : Reader → Reader → ℕ → ℕ → Progress → Result (Unit {0}) ReadFault → Type 0
+SteppedAs x y at b p (Ok _) = SteppedTo x y at b p
+SteppedAs x y at b p (Err f) = (rest : List ℕ) → RefusedAs (from x at (b ∷ rest) p) x.tree.home.«module» f
+
+-- of a reader whose tree is built to any progress
+abbrev pub Stepped : Reader → Reader → ℕ → ℕ → Result (Unit {0}) ReadFault → Type 0
+Stepped x y at b r = (p : Progress) → Built x.tree p → SteppedAs x y at b p r

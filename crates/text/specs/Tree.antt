@@ -60,6 +60,10 @@ abbrev pub Finished : Read (List PureForm) → Word → Result Text ReadFault �
 Finished o m (Ok t) = (fs : List PureForm) × (o ≡ reads fs) × Forms (vec_items t.cells) (vec_items t.forms) fs
 Finished o m (Err f) = RefusedAs o m f
 
+-- of a tree, built to any progress, f says what the whole text is
+abbrev pub Ends : (Progress → Read (List PureForm)) → Tree → Result Text ReadFault → Type 0
+Ends f t r = (p : Progress) → Built t p → Finished (f p) t.home.«module» r
+
 -- a refusal has its place within so many bytes, or at their end
 abbrev pub Within : ℕ → Result Text ReadFault → Type 0
 Within n (Ok t) = Unit {0}

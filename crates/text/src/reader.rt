@@ -1,9 +1,9 @@
 //! The reader: a text, byte by byte.
 ghost use Rattle.std.specs.Prelude.{◌≡◌, ◌<◌, ◌≤◌, [], length, if◌then◌else◌, nat_eq, slice_index};
 ghost use Rattle.rules.specs.Words.{text_home};
-ghost use Rattle.rules.specs.Reading.{Progress, reads, mark, placed, item_of, read};
+ghost use Rattle.rules.specs.Reading.{reads, mark, placed, item_of, read};
 ghost use Rattle.word.specs.Words.{spelling};
-ghost use Rattle.text.specs.Tree.{Built, Steps, Finished, Within};
+ghost use Rattle.text.specs.Tree.{Steps, Ends, Finished, Within};
 ghost use Rattle.text.specs.Reads.{Stepped, from};
 
 use crate::item::item_value;
@@ -54,7 +54,7 @@ impl Reader<'_> {
         requires begun { self.old.start ≤ at }
         requires within { at < length self.old.bytes.now }
         requires byte { b ≡ slice_index self.old.bytes.now at }
-        ensures { (p : Progress) → Built self.old.tree p → Stepped self.old self.new at b p result }
+        ensures { Stepped self.old self.new at b result }
     {
         if !is_item_byte(b) {
             end_item(&mut self.tree, &self.bytes[self.start..at], self.start)?;
@@ -67,7 +67,7 @@ impl Reader<'_> {
     // The text ends.
     fn finish(self) -> Result<Text, ReadFault>
         requires { self.start ≤ length self.bytes.now }
-        ensures { (p : Progress) → Built self.entry.tree p → Finished (from self.entry (length self.entry.bytes.now) [] p) self.entry.tree.home.«module» result }
+        ensures { Ends (from self.entry (length self.entry.bytes.now) []) self.entry.tree result }
     {
         let Reader {
             bytes,

@@ -3,7 +3,7 @@ ghost use Rattle.std.specs.Prelude.{◌≡◌, [], length, if◌then◌else◌, 
 ghost use Rattle.rules.specs.Words.{Datum};
 ghost use Rattle.rules.specs.Reading.{Open as PureOpen, Progress, bracket, quoted, reads, refused, nothing_read, nest, close, settle, placed, ended};
 ghost use Rattle.text.specs.Data.{Stands};
-ghost use Rattle.text.specs.Tree.{OpenIs, Built, Steps, RefusedAs, Finished};
+ghost use Rattle.text.specs.Tree.{OpenIs, Built, Steps, Ends, RefusedAs};
 
 use crate::data::{Cell, Value, push_list, push_quote};
 use crate::refusal::{ReadFault, Refusal};
@@ -153,7 +153,7 @@ impl Tree {
 
     /// The text ends at an offset.
     pub(crate) fn finish(self, end: usize) -> Result<Text, ReadFault>
-        ensures { (p : Progress) → Built self p → Finished (ended end p.forms p.opened) self.home.«module» result }
+        ensures { Ends (λ p. ended end p.forms p.opened) self result }
     {
         if !self.opened.is_empty() {
             return Err(self.refuse(Cause::Unbalanced, end));

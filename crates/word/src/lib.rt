@@ -40,13 +40,13 @@ fn is_word(bytes: &[u8]) -> bool
     ensures { result ≡ is_word bytes.now }
 {
     match bytes {
-        [first, rest @ ..] => is_letter(*first) && are_item_bytes(rest) && rest.len() <= 11,
+        [first, rest @ ..] => is_letter(*first) && are_item_bytes(rest) && bytes.len() <= 12,
         [] => false,
     }
 }
 
 /// A word: its first `len` bytes, or all twelve where `len` says more. Slots, cells and keys hold words by value, in memory
-/// that is fixed or lent, so a word is an array with its length and no `String`.
+/// that is fixed or lent: so it is an array with a length of one byte, and no `String`.
 #[derive(Clone, Copy, Debug)]
 pub struct Word {
     bytes: [u8; 12],
