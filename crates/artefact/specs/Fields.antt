@@ -1,11 +1,13 @@
 -- How the fields of a line are read. Assumes nothing.
-use Rattle.std.specs.Prelude.{ℕ, Bool, true, false, cond, ◌&&◌, List, [], ◌∷◌, ◌++◌, ℤ, pos, negsuc, Some, None, codes, Option, ◌==◌, nat_le}
+use Rattle.std.specs.Prelude.{◌≡◌, ℕ, Bool, true, false, cond, ◌&&◌, List, [], ◌∷◌, ◌++◌, ℤ, pos, negsuc, Some, None, codes, Option, ◌==◌, nat_le}
 use Rattle.std.specs.Option.{option_map}
 use Rattle.std.specs.Str.{bytes_eq}
 use Rattle.rules.specs.Words.{Spelling, Home, is_word, arity_of, prim_named}
 use Rattle.rules.specs.Reading.{numeral}
 use Rattle.rules.specs.Rows.{Row, number_row, empty_row, name_row, local_row, variable_row, set_row, if_row, let_row, do_row, call_row, prim_row}
 use Rattle.rules.specs.Rows.{Kind, variable_of, procedure_of, macro_of, action, Require}
+use Rattle.modules.specs.declared.module.Row.{Row as CodeRow}
+use Rattle.modules.specs.Says.{meant}
 use Rattle.modules.specs.Limits.{free_name}
 use Rattle.modules.specs.Whole.{Heading}
 
@@ -96,3 +98,6 @@ Got same None None = Unit {0}
 Got same None (Some x) = ⊥
 Got same (Some q) None = ⊥
 Got same (Some q) (Some x) = same x q
+
+abbrev pub GotRow : Option Row → Option CodeRow → Type 0
+GotRow = Got (λ x q. meant x ≡ q)

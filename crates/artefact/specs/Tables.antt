@@ -6,6 +6,7 @@ use Rattle.rules.specs.Rows.{Module as PureModule}
 use Rattle.rules.specs.Artefact.{artefact}
 use Rattle.artefact.specs.declared.reader.ReadFault.{ReadFault}
 use Rattle.artefact.specs.declared.reader.ReadFault.TheVariants.{NotAnArtefact, Memory}
+use Rattle.artefact.specs.declared.writer.WriteFault.{WriteFault}
 use Rattle.modules.specs.declared.module.Module.{Module}
 use Rattle.modules.specs.Says.{Says}
 use Rattle.modules.specs.Limits.{WithinLimits}
@@ -74,8 +75,8 @@ pub record Wrote (m : Module) (bytes : List ℕ) : Type 0 where
   pub as_is : bytes ≡ written m
   pub as_ruled : (p : PureModule) → Says m p → bytes ≡ artefact p
 
--- the bytes are in front of the buffer, whose rest is as it was; or they do not fit, and all of it is
-abbrev pub Fronted : {E : Type 0} → List ℕ → List ℕ → List ℕ → Result (Option ℕ) E → Type 0
-Fronted bytes before after (Ok (Some n)) = (n ≡ length bytes) × (n ≤ length before) × (after ≡ bytes ++ drop n before)
-Fronted bytes before after (Ok None) = (length before < length bytes) × (after ≡ before)
-Fronted bytes before after (Err e) = after ≡ before
+-- the bytes are in front of the buffer, whose rest is as it was; or they do not fit or there is no memory, and all of it is
+abbrev pub Fronted : List ℕ → List ℕ → List ℕ → Result ℕ WriteFault → Type 0
+Fronted bytes before after (Ok n) = (n ≡ length bytes) × (n ≤ length before) × (after ≡ bytes ++ drop n before)
+Fronted bytes before after (Err WriteFault.NoRoom) = (length before < length bytes) × (after ≡ before)
+Fronted bytes before after (Err WriteFault.Memory) = after ≡ before

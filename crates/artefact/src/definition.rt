@@ -108,10 +108,7 @@ impl Entry for Definition {
         let level = level.to_string(heap)?;
         let params = kind.params().to_string(heap)?;
         let rows = rows.to_string(heap)?;
-        let name = match &name {
-            Some(name) => name.as_bytes(),
-            None => b"-",
-        };
+        let name = name.as_ref().map_or(b"-".as_slice(), Word::as_bytes);
         put_line(
             out,
             &[

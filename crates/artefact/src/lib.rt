@@ -13,7 +13,7 @@ mod writer;
 
 pub use modules::{Definition, Kind, Module, Require, Row};
 pub use reader::{ReadFault, read};
-pub use writer::{append, write, write_front};
+pub use writer::{WriteFault, append, write, write_front};
 
 #[cfg(test)]
 mod tests;

@@ -1,4 +1,4 @@
-//! Writing lines.
+//! Writing lines. Lines are bytes and no text, since the bytes of a word need not be text.
 ghost use Rattle.std.specs.Prelude.{◌≡◌, [], ◌∷◌, ◌++◌, map, OnOk};
 ghost use Rattle.rules.specs.Artefact.{line};
 

@@ -4,7 +4,7 @@ ghost use Rattle.rules.specs.Artefact.{line};
 ghost use Rattle.word.specs.Words.{spelling, home_of};
 ghost use Rattle.modules.specs.Says.{meant};
 ghost use Rattle.artefact.specs.Lines.{row_text, FitsRow, LawfulRow};
-ghost use Rattle.artefact.specs.Fields.{when, pick, is_unused, plain_arms, worded_arms, named_arms, row_from, Got};
+ghost use Rattle.artefact.specs.Fields.{when, pick, is_unused, plain_arms, worded_arms, named_arms, row_from, GotRow};
 ghost use Rattle.artefact.specs.Entries.{row_ended};
 
 use crate::entry::Entry;
@@ -17,7 +17,7 @@ use text::parse_number;
 use word::Name;
 
 // A row whose word is looked up, with the number of its operands or none.
-fn put_named(op: &[u8], name: Name, number: &[u8], out: &mut Vec<u8>) -> Result<(), AllocError>
+fn put_named(out: &mut Vec<u8>, op: &[u8], name: Name, number: &[u8]) -> Result<(), AllocError>
     ensures { OnOk result (out.new.items ≡ out.old.items ++ line (op.now ∷ spelling name.word ∷ spelling name.home.«module» ∷ decimal name.home.base ∷ number.now ∷ [])) }
 {
     let base = name.home.base.to_string(*out.allocator())?;
@@ -34,7 +34,7 @@ fn put_named(op: &[u8], name: Name, number: &[u8], out: &mut Vec<u8>) -> Result<
 }
 
 // A row with a number, and with a word or none.
-fn put_counted(op: &[u8], text: &[u8], count: u8, out: &mut Vec<u8>) -> Result<(), AllocError>
+fn put_counted(out: &mut Vec<u8>, op: &[u8], text: &[u8], count: u8) -> Result<(), AllocError>
     ensures { OnOk result (out.new.items ≡ out.old.items ++ line (op.now ∷ text.now ∷ codes "-" ∷ codes "-" ∷ decimal count ∷ [])) }
 {
     let count = count.to_string(*out.allocator())?;
@@ -43,14 +43,14 @@ fn put_counted(op: &[u8], text: &[u8], count: u8, out: &mut Vec<u8>) -> Result<(
 
 // A row that uses no number, if the field for it says so.
 fn unnumbered(row: Row, number: &str) -> Option<Row>
-    ensures { Got (λ x q. meant x ≡ q) (when (is_unused number.now) (Some (meant row))) result }
+    ensures { GotRow (when (is_unused number.now) (Some (meant row))) result }
 {
     is_unused(number).then_some(row)
 }
 
 // A row that uses its number at the most.
 fn plain_row(op: &str, number: &str) -> Option<Row>
-    ensures { Got (λ x q. meant x ≡ q) (pick op.now (plain_arms number.now)) result }
+    ensures { GotRow (pick op.now (plain_arms number.now)) result }
 {
     match op {
         "number" => Some(Row::Number(parse_number(number.as_bytes())?)),
@@ -68,7 +68,7 @@ fn plain_row(op: &str, number: &str) -> Option<Row>
 
 // A row that uses a word, and no home.
 fn worded_row(op: &str, word: &str, number: &str) -> Option<Row>
-    ensures { Got (λ x q. meant x ≡ q) (pick op.now (worded_arms word.now number.now)) result }
+    ensures { GotRow (pick op.now (worded_arms word.now number.now)) result }
 {
     match op {
         "set" => unnumbered(Row::Set(parse_word(word)?), number),
@@ -86,7 +86,7 @@ fn worded_row(op: &str, word: &str, number: &str) -> Option<Row>
 
 // A row that uses a word and its home.
 fn named_row(op: &str, name: Name, number: &str) -> Option<Row>
-    ensures { Got (λ x q. meant x ≡ q) (pick op.now (named_arms (spelling name.word) (home_of name.home) number.now)) result }
+    ensures { GotRow (pick op.now (named_arms (spelling name.word) (home_of name.home) number.now)) result }
 {
     match op {
         "name" => unnumbered(Row::Name(name), number),
@@ -105,7 +105,7 @@ fn is_homeless(module: &str, base: &str) -> bool
 
 // The row that the fields of a line say.
 fn row_from(fields: Fields<'_>) -> Option<Row>
-    ensures { Got (λ x q. meant x ≡ q) (row_from fields.entry.first.now fields.entry.second.now fields.entry.third.now fields.entry.fourth.now fields.entry.fifth.now) result }
+    ensures { GotRow (row_from fields.entry.first.now fields.entry.second.now fields.entry.third.now fields.entry.fourth.now fields.entry.fifth.now) result }
 {
     if !is_homeless(fields.third, fields.fourth) {
         let home = parse_home(fields.third, fields.fourth)?;
@@ -134,18 +134,18 @@ impl Entry for Row {
                 put_line(out, &[b"number", b"-", b"-", b"-", number.as_bytes()])
             }
             Row::Empty => put_line(out, &[b"empty", b"-", b"-", b"-", b"-"]),
-            Row::Name(name) => put_named(b"name", name, b"-", out),
-            Row::Local(i) => put_counted(b"local", b"-", i, out),
-            Row::Variable(name) => put_named(b"variable", name, b"-", out),
+            Row::Name(name) => put_named(out, b"name", name, b"-"),
+            Row::Local(i) => put_counted(out, b"local", b"-", i),
+            Row::Variable(name) => put_named(out, b"variable", name, b"-"),
             Row::Set(word) => put_line(out, &[b"set", word.as_bytes(), b"-", b"-", b"-"]),
             Row::If => put_line(out, &[b"if", b"-", b"-", b"-", b"-"]),
             Row::Let => put_line(out, &[b"let", b"-", b"-", b"-", b"-"]),
-            Row::Do(n) => put_counted(b"do", b"-", n, out),
+            Row::Do(n) => put_counted(out, b"do", b"-", n),
             Row::Call(name, n) => {
                 let number = n.to_string(*out.allocator())?;
-                put_named(b"call", name, number.as_bytes(), out)
+                put_named(out, b"call", name, number.as_bytes())
             }
-            Row::Prim(p, n) => put_counted(b"prim", p.as_str().as_bytes(), n, out),
+            Row::Prim(p, n) => put_counted(out, b"prim", p.as_str().as_bytes(), n),
         }
     }
 

@@ -1,5 +1,5 @@
 //! The artefacts of the rules' worked keys, read and written again.
-use crate::{Module, ReadFault, read, write, write_front};
+use crate::{Module, ReadFault, WriteFault, read, write, write_front};
 use std::test::Fail;
 
 // A paper of one row that prints what the bank's macro makes of it.
@@ -46,8 +46,11 @@ fn written_as_it_was_read(rt: HostRuntime) -> Result<(), Fail> {
 fn written_in_front_or_not(rt: HostRuntime) -> Result<(), Fail> {
     let paper = module_of(&rt, PAPER)?;
     let mut room = [7u8; 122];
-    assert_eq!(rt; write_front(rt.alloc(), &paper, &mut room[0..120])?, None);
-    assert_eq!(rt; write_front(rt.alloc(), &paper, &mut room)?, Some(121));
+    assert_eq!(rt;
+        write_front(rt.alloc(), &paper, &mut room[0..120]),
+        Err(WriteFault::NoRoom)
+    );
+    assert_eq!(rt; write_front(rt.alloc(), &paper, &mut room), Ok(121));
     assert!(rt; &room[0..121] == PAPER);
     assert_eq!(rt; room[121], 7);
     Ok(())

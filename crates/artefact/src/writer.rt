@@ -1,18 +1,43 @@
 //! The bytes of a module.
-ghost use Rattle.std.specs.Prelude.{◌≡◌, ◌≤◌, true, ◌++◌, length, is_some, IfOk, OnOk};
+ghost use Rattle.std.specs.Prelude.{◌≡◌, ◌≢◌, ◌≤◌, ◌++◌, length, Err, IfOk, OnOk};
 ghost use Rattle.std.specs.List.{flat_map};
 ghost use Rattle.rules.specs.Rows.{Module as PureModule};
 ghost use Rattle.modules.specs.Says.{Says};
 ghost use Rattle.modules.specs.Limits.{WithinLimits};
+ghost use Rattle.artefact.specs.declared.writer.WriteFault.TheVariants.{NoRoom, Memory};
 ghost use Rattle.artefact.specs.Lines.{written};
 ghost use Rattle.artefact.specs.Tables.{Appended, Wrote, Fronted};
 
 use crate::entry::Entry;
 use modules::Module;
-use std::alloc::{AllocError, Global};
+use std::alloc::{AllocError, AllocFailed, Global};
+
+/// Why bytes were not written in front of a buffer: they do not fit, or there was no memory.
+#[derive(Clone, Copy, PartialEq, Eq, Debug)]
+pub enum WriteFault {
+    NoRoom,
+    Memory,
+}
+
+// By hand: clauses of `?` read what a conversion gives, which a derived one does not state.
+impl From<AllocError> for WriteFault {
+    ghost from_gives = { λ _ r. r ≡ Memory };
+
+    fn from(_e: AllocError) -> WriteFault {
+        WriteFault::Memory
+    }
+}
+
+impl<T: Drop> From<AllocFailed<T>> for WriteFault {
+    ghost from_gives = { λ _ r. r ≡ Memory };
+
+    fn from(_e: AllocFailed<T>) -> WriteFault {
+        WriteFault::Memory
+    }
+}
 
 // The lines of a table.
-fn put_all<E: Entry>(entries: &[E], out: &mut Vec<u8>) -> Result<(), AllocError>
+fn put_all<E: Entry>(out: &mut Vec<u8>, entries: &[E]) -> Result<(), AllocError>
     ensures { OnOk result (out.new.items ≡ out.old.items ++ flat_map E.Entry.line entries.now) }
 {
     'each: for entry in entries {
@@ -26,11 +51,11 @@ pub fn append(module: &Module, out: &mut Vec<u8>) -> Result<(), AllocError>
     ensures { OnOk result (Appended «module».now out.old.items out.new.items) }
 {
     out.extend_from_slice(b"require shift\n")?;
-    put_all(&module.required, out)?;
+    put_all(out, &module.required)?;
     out.extend_from_slice(b"level kind name params rows\n")?;
-    put_all(&module.definitions, out)?;
+    put_all(out, &module.definitions)?;
     out.extend_from_slice(b"op text home base number\n")?;
-    put_all(&module.rows, out)
+    put_all(out, &module.rows)
 }
 
 /// The bytes of a module. Where it says a module of the rules, they are that module's artefact.
@@ -42,21 +67,17 @@ pub fn write(heap: Global, module: &Module) -> Result<Vec<u8>, AllocError>
     Ok(out)
 }
 
-/// Writes the bytes of a module in front of a buffer and leaves the rest of it: how many there are, or none where they do
-/// not fit, and then nothing is written. A page of 8,192 bytes has room for every module that keeps the limits.
-pub fn write_front(
-    heap: Global,
-    module: &Module,
-    buffer: &mut [u8],
-) -> Result<Option<usize>, AllocError>
+/// Writes the bytes of a module in front of a buffer and leaves the rest of it: how many there are. Where they do not fit,
+/// or there is no memory, nothing is written. A page of 8,192 bytes has room for every module that keeps the limits.
+pub fn write_front(heap: Global, module: &Module, buffer: &mut [u8]) -> Result<usize, WriteFault>
     ensures front { Fronted (written «module».now) buffer.old buffer.new result }
-    ensures page { (p : PureModule) → Says «module».now p → WithinLimits p → 8192 ≤ length buffer.old → IfOk result (λ n. is_some n ≡ true) }
+    ensures page { (p : PureModule) → Says «module».now p → WithinLimits p → 8192 ≤ length buffer.old → result ≢ Err NoRoom }
 {
     let bytes = write(heap, module)?;
     let n = bytes.len();
     if n > buffer.len() {
-        return Ok(None);
+        return Err(WriteFault::NoRoom);
     }
     buffer[0..n].copy_from_slice(&bytes);
-    Ok(Some(n))
+    Ok(n)
 }

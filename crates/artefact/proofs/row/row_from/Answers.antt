@@ -1,7 +1,6 @@
-use Rattle.std.proofs.Common.{◌≡◌, sym, subst}
+use Rattle.std.proofs.Common.{sym, subst}
 use Rattle.word.specs.Words.{home_of}
-use Rattle.modules.specs.Says.{meant}
-use Rattle.artefact.specs.Fields.{pick, named_arms, Got}
+use Rattle.artefact.specs.Fields.{pick, named_arms, GotRow}
 use Rattle.artefact.specs.Picks.{got_none, got_some, none_got}
 use Rattle.artefact.specs.Rows.{no_home, no_word, homed_row}
 use Rattle.artefact.proofs.row.row_from.Goals as goal
@@ -22,6 +21,6 @@ returns-then-not-is_homeless c =
     let f = c.args.fields in
     let h = got_some _ _ c.in_ok-home.home c.in_ok-home.ensures in
     let w = c.in_ok-word.ensures in
-    let spelled = subst (λ s. Got (λ x q. meant x ≡ q) (pick f.first.now (named_arms s (home_of c.in_ok-home.home) f.fifth.now)) c.named_row.result) w.1 c.named_row.ensures in
-    let homed = subst (λ k. Got (λ x q. meant x ≡ q) (pick f.first.now (named_arms f.second.now k f.fifth.now)) c.named_row.result) h.2 spelled in
+    let spelled = subst (λ s. GotRow (pick f.first.now (named_arms s (home_of c.in_ok-home.home) f.fifth.now)) c.named_row.result) w.1 c.named_row.ensures in
+    let homed = subst (λ k. GotRow (pick f.first.now (named_arms f.second.now k f.fifth.now)) c.named_row.result) h.2 spelled in
     rw (homed_row f.first.now f.second.now f.third.now f.fourth.now f.fifth.now (sym c.if-not-is_homeless.ensures) h.0 h.1 w.0) homed
