@@ -10,7 +10,7 @@ ghost use Rattle.artefact.specs.Tables.{Appended, Wrote, Fronted};
 
 use crate::entry::Entry;
 use modules::Module;
-use std::alloc::{AllocError, AllocFailed, Global};
+use std::alloc::{AllocError, Global};
 
 /// Why bytes were not written in front of a buffer: they do not fit, or there was no memory.
 #[derive(Clone, Copy, PartialEq, Eq, Debug)]
@@ -24,14 +24,6 @@ impl From<AllocError> for WriteFault {
     ghost from_gives = { λ _ r. r ≡ Memory };
 
     fn from(_e: AllocError) -> WriteFault {
-        WriteFault::Memory
-    }
-}
-
-impl<T: Drop> From<AllocFailed<T>> for WriteFault {
-    ghost from_gives = { λ _ r. r ≡ Memory };
-
-    fn from(_e: AllocFailed<T>) -> WriteFault {
         WriteFault::Memory
     }
 }
