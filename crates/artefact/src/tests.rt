@@ -36,6 +36,7 @@ fn module_of(rt: &HostRuntime, bytes: &[u8]) -> Result<Module, Fail> {
 fn written_as_it_was_read(rt: HostRuntime) -> Result<(), Fail> {
     let paper = module_of(&rt, PAPER)?;
     assert_eq!(rt; PAPER.len(), 121);
+    // both sides of `==` have one type, so a `Vec` is read as a slice here
     assert!(rt; write(rt.alloc(), &paper)?.as_slice() == PAPER);
     let bank = module_of(&rt, BANK)?;
     assert!(rt; write(rt.alloc(), &bank)?.as_slice() == BANK);
