@@ -107,30 +107,13 @@ fn word(text: &[u8]) -> Result<Word, Fail> {
     Ok(Word::try_from(text).map_err(|_| Fail::new("not a word"))?)
 }
 
+fn edge(by: Word, from: Word, shift: u8) -> Require {
+    Require { by, from, shift }
+}
+
 // a requires b and, one phase up, c, and both require d.
 fn diamond(a: Word, b: Word, c: Word, d: Word) -> [Require; 4] {
-    [
-        Require {
-            by: a,
-            from: b,
-            shift: 0,
-        },
-        Require {
-            by: a,
-            from: c,
-            shift: 1,
-        },
-        Require {
-            by: b,
-            from: d,
-            shift: 0,
-        },
-        Require {
-            by: c,
-            from: d,
-            shift: 0,
-        },
-    ]
+    [edge(a, b, 0), edge(a, c, 1), edge(b, d, 0), edge(c, d, 0)]
 }
 
 #[test]
@@ -169,18 +152,7 @@ fn modules_refused(rt: HostRuntime) -> Result<(), Fail> {
         Err(Halt::TooDeep(w)) => assert!(rt; w == d),
         _ => return Err(Fail::new("too deep")),
     }
-    let ring = [
-        Require {
-            by: a,
-            from: b,
-            shift: 0,
-        },
-        Require {
-            by: b,
-            from: a,
-            shift: 1,
-        },
-    ];
+    let ring = [edge(a, b, 0), edge(b, a, 1)];
     let mut round = Modules {
         needs: &ring,
         most: 4,
