@@ -1,7 +1,19 @@
 //! The limits of reading.
 use anyhow::anyhow;
+use std::fmt;
+use std::fmt::Display;
 use text::ReadFault;
 use word::Word;
+
+// The label of a byte. It is printed as it stands: where memory is wanting, the texts after it are still shown.
+#[derive(Clone, Copy, PartialEq, Eq, Debug)]
+struct Byte(u8);
+
+impl Display for Byte {
+    fn fmt<W: fmt::Write>(&self, f: &mut fmt::Formatter<W>) -> fmt::Result {
+        write!(f, "byte {}", self.0)
+    }
+}
 
 /// Texts that are read as one module's, each shown on a line of its own.
 #[derive(Clone, Copy)]
@@ -17,7 +29,7 @@ impl<'a> Reading<'a> {
     }
 
     // What a text reads as.
-    fn show(&self, label: &str, text: &[u8]) -> anyhow::Result<()> {
+    fn show<L: Display + Copy>(&self, label: L, text: &[u8]) -> anyhow::Result<()> {
         match text::read(self.rt.alloc(), self.module, text) {
             Ok(text) => println!(self.rt; "{label}: forms {}", text.forms.len())?,
             Err(ReadFault::Refused(refusal)) => println!(self.rt; "{label}: {refusal}")?,
@@ -87,8 +99,7 @@ impl<'a> Reading<'a> {
     // Every byte by itself: those that may stand alone, those that are an item, and those that no text has.
     fn bytes(&self) -> anyhow::Result<()> {
         for b in 0..=255u8 {
-            let label = format!(in self.rt.alloc(); "byte {b}")?;
-            self.show(&label, &[b' ', b])?;
+            self.show(Byte(b), &[b' ', b])?;
         }
         Ok(())
     }

@@ -28,7 +28,7 @@ impl Alike for Definition {
     ghost alike = { alike_definition };
 
     fn is_alike(&self, other: &Definition) -> bool {
-        self.name.is_some() && self.name == other.name && self.level == other.level
+        self.level == other.level && self.name.is_some() && self.name == other.name
     }
 }
 

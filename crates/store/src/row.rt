@@ -71,11 +71,15 @@ impl<L: Length, const ROOM: usize> Row<L, ROOM> {
         }
     }
 
-    /// Whether it is the row of this entry, or a free one if that is sought.
-    pub(crate) fn is_of(&self, key: Option<Key>) -> bool
-        ensures { result ≡ sought key (row_says L.counts ROOM self.now) }
+    /// Whether it is the row of this entry, or a free one if that is sought. A search asks it of every row, so it is inlined.
+    #[inline(always)]
+    pub(crate) fn is_of(&self, key: &Option<Key>) -> bool
+        ensures { result ≡ sought key.now (row_says L.counts ROOM self.now) }
     {
-        self.head.map(|head| head.key) == key
+        match key {
+            Some(key) => self.head.as_ref().is_some_and(|head| head.key == *key),
+            None => self.head.is_none(),
+        }
     }
 
     /// The bytes of its entry.
@@ -116,7 +120,7 @@ impl<L: Length, const ROOM: usize> Row<L, ROOM> {
     pub(crate) fn strike(&mut self, key: Key)
         ensures { row_says L.counts ROOM self.new ≡ cleared (spelling key.name) key.kind (row_says L.counts ROOM self.old) }
     {
-        if self.is_of(Some(key)) {
+        if self.is_of(&Some(key)) {
             self.free();
         }
     }

@@ -4,7 +4,7 @@ ghost use Rattle.std.specs.List.{position_from};
 ghost use Rattle.std.specs.Option.{option_map};
 ghost use Rattle.word.specs.Words.{spelling};
 ghost use Rattle.store.specs.Maps.{answered, fronted};
-ghost use Rattle.store.specs.Rows.{rows_say, row_says, said, sought, is_at, is_free, look, place_for, written, struck, emptied};
+ghost use Rattle.store.specs.Rows.{rows_say, row_says, said, sought, is_free, look, place_for, written, struck, emptied};
 
 use super::row::{Length, Row};
 use super::{Key, Miss, NotTaken};
@@ -17,7 +17,7 @@ fn find<L: Length, const ROOM: usize>(rows: &[Row<L, ROOM>], key: Option<Key>) -
     rows.iter().position(
         |row| -> bool
             ensures { result ≡ sought key (row_says L.counts ROOM row.now) }
-        { row.is_of(key) },
+        { row.is_of(&key) },
     )
 }
 
@@ -28,10 +28,11 @@ pub(crate) fn row_of<L: Length, const ROOM: usize>(
 ) -> Option<&Row<L, ROOM>>
     ensures { MatchOption result ((b : Option (List ℕ)) → look (rows_say L.counts ROOM rows.now) (spelling key.name) key.kind b ≡ b) (λ x. (b : Option (List ℕ)) → look (rows_say L.counts ROOM rows.now) (spelling key.name) key.kind b ≡ said (row_says L.counts ROOM x.now)) }
 {
+    let entry = Some(key);
     rows.iter().find(
         |row| -> bool
-            ensures { result ≡ is_at (spelling key.name) key.kind (row_says L.counts ROOM row.now.now) }
-        { row.is_of(Some(key)) },
+            ensures { result ≡ sought entry (row_says L.counts ROOM row.now.now) }
+        { row.is_of(&entry) },
     )
 }
 

@@ -6,6 +6,7 @@ use Rattle.std.proofs.lemmas.List.{length-reverse}
 use Rattle.std.proofs.lemmas.Bool.{cond-true, cond-false, ne_eqb, lt-leb, le-leb}
 use Rattle.rules.specs.declared.cause.Cause.{Cause}
 use Rattle.rules.specs.Words.{Datum, list_of}
+use Rattle.rules.specs.Words.{Home as PureHome}
 use Rattle.rules.specs.Reading.{Open as PureOpen, Read, reads, refused, bracket, quoted, Progress, settle, start, nest, close, ended, quote_of}
 use Rattle.rules.specs.Reading.{Form as PureForm}
 use Rattle.text.specs.declared.data.Value.{Value}
@@ -158,6 +159,10 @@ too_deep x y at q f l r p b = subst (λ (o : Read Progress). RefusedAs o x.home.
 went_from : (x z y : Tree) (o : Read Progress) (r : Result (Unit {0}) ReadFault) → z.home ≡ x.home → Went o z y r → Went o x y r
 went_from x z y o (Ok u) e w = (w.0, w.1, w.2, w.3 ∙ e)
 went_from x z y o (Err f) e w = subst (λ (h : Home). RefusedAs o h.«module» f) e w
+
+-- a step from a tree that is x but for memory that serves later lists
+pub step_beside : (x z y : Tree) (f : PureHome → Progress → Read Progress) (r : Result (Unit {0}) ReadFault) → Beside x z → z.begun ≡ x.begun → vec_items z.opened ≡ vec_items x.opened → Steps f z y r → Steps f x y r
+step_beside x z y f r k e n s p b = went_from x z y (f (home_of x.home) p) r k.home (rw (← k.home) (s p (built_beside x z p p.opened p.begun k (rw n b.opened) (e ∙ b.begun) b)))
 
 -- a list closes, and what is added after it is as the rules say
 pub list_closed : (x z y : Tree) (at : ℕ) (vs : Vec Value Global) (list : Value) (r : Result (Unit {0}) ReadFault) → Beside x z → z.begun ≡ x.begun → vec_items x.opened ≡ vec_items z.opened ++ Open.List vs ∷ [] → Listed (vec_items x.cells) (vec_items z.cells) (vec_items vs) list → ((d : Datum) → Stands (vec_items z.cells) list d → Steps (λ h p. reads (settle h p.begun p.forms p.opened d)) z y r) → Steps (λ h p. close h at p.begun p.forms p.opened) x y r

@@ -1,5 +1,6 @@
 //! Data as people read them.
-ghost use Rattle.std.specs.Prelude.{◌≡◌, List, ◌++◌, IfOk, OnOk};
+ghost use Rattle.std.specs.Prelude.{◌≡◌, List, ◌++◌, is_ok, if◌then◌else◌, IfOk, OnOk};
+ghost use Rattle.std.specs.Fmt.{signed_decimal};
 ghost use Rattle.std.specs.List.{flat_map};
 ghost use Rattle.rules.specs.Words.{Datum};
 ghost use Rattle.text.specs.Data.{Stands};
@@ -18,6 +19,15 @@ struct Writer<'a> {
     out: Vec<u8>,
 }
 
+// A number, in digits. Its frame is its own, so that it takes no room in those of the data around it.
+#[inline(never)]
+fn put_number(out: &mut Vec<u8>, n: i32) -> Result<(), AllocError>
+    ensures { out.new.items ≡ (if is_ok result then out.old.items ++ signed_decimal n else out.old.items) }
+{
+    let digits = n.to_string(*out.allocator())?;
+    out.extend_from_slice(digits.as_bytes())
+}
+
 impl Writer<'_> {
     // A datum over the first `below` cells.
     #[cycle(put_datum_put_rest)]
@@ -26,10 +36,7 @@ impl Writer<'_> {
         ensures written { OnOk result (Writes self.old.cells.now below value shown self.old.out.items self.new.out.items) }
     {
         let i = match value {
-            Value::Number(n) => {
-                let digits = n.to_string(*self.out.allocator())?;
-                return self.out.extend_from_slice(digits.as_bytes());
-            }
+            Value::Number(n) => return put_number(&mut self.out, n),
             Value::Word(name) => return self.out.extend_from_slice(name.word.as_bytes()),
             Value::Empty => return self.out.extend_from_slice(b"()"),
             Value::Pair(i) => i,
@@ -37,13 +44,14 @@ impl Writer<'_> {
         if i >= below || i >= self.cells.len() {
             return Ok(());
         }
-        let Cell { head, tail } = self.cells[i];
+        let cells = self.cells;
         self.out.push(b'(')?;
-        self.put_datum(i, head)?;
-        self.put_rest(i, tail)
+        self.put_datum(i, cells[i].head)?;
+        self.put_rest(i, cells[i].tail)
     }
 
-    // What follows in a list after its first element.
+    // What follows in a list after its first element. It is part of `put_datum`, so that each nesting takes one frame.
+    #[inline(always)]
     #[cycle(put_datum_put_rest)]
     fn put_rest(&mut self, mut below: usize, mut value: Value) -> Result<(), AllocError>
         ensures kept { self.new.cells ≡ self.old.cells }
@@ -53,11 +61,11 @@ impl Writer<'_> {
             if i >= below || i >= self.cells.len() {
                 return Ok(());
             }
-            let Cell { head, tail } = self.cells[i];
+            let cells = self.cells;
             self.out.push(b' ')?;
-            self.put_datum(i, head)?;
+            self.put_datum(i, cells[i].head)?;
             below = i;
-            value = tail;
+            value = cells[i].tail;
         }
         if let Value::Empty = value {
             self.out.push(b')')?;

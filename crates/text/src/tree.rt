@@ -1,5 +1,5 @@
 //! The data of a text, as they are put together.
-ghost use Rattle.std.specs.Prelude.{◌≡◌, [], length, if◌then◌else◌, Some, nat_eq};
+ghost use Rattle.std.specs.Prelude.{◌≡◌, [], ◌∷◌, ◌++◌, length, if◌then◌else◌, Some, nat_eq, nat_le, OnOk};
 ghost use Rattle.rules.specs.Words.{Datum};
 ghost use Rattle.rules.specs.Reading.{Open as PureOpen, Progress, bracket, quoted, reads, refused, nothing_read, nest, close, settle, placed, ended};
 ghost use Rattle.text.specs.Data.{Stands};
@@ -8,7 +8,7 @@ ghost use Rattle.text.specs.Tree.{OpenIs, Built, Steps, Ends, RefusedAs};
 use crate::data::{Cell, Value, push_list, push_quote};
 use crate::refusal::{ReadFault, Refusal};
 use rules::Cause;
-use std::alloc::Global;
+use std::alloc::{AllocError, Global};
 use word::Home;
 
 /// A list or a quote that is still open; a list has what was read of it so far.
@@ -40,8 +40,24 @@ pub(crate) struct Tree {
     begun: usize,
     // innermost last
     opened: Vec<Open>,
+    // of short lists that closed: their memory serves those that open next
+    spare: Vec<Vec<Value>>,
     cells: Vec<Cell>,
     forms: Vec<Form>,
+}
+
+// How many values a list may have had whose memory is kept.
+const SHORT: usize = 16;
+
+// Keeps the memory of a list, if it is short: most lists are, and an allocation for each would cost more than to read it. A
+// long one lets its memory go, so that all that is kept is little.
+fn keep_short(spare: &mut Vec<Vec<Value>>, items: Vec<Value>) -> Result<(), AllocError>
+    ensures { OnOk result (spare.new.items ≡ (if nat_le (length items.items) 16 then spare.old.items ++ (items ∷ []) else spare.old.items)) }
+{
+    if items.len() <= SHORT {
+        spare.push(items)?;
+    }
+    Ok(())
 }
 
 impl Tree {
@@ -54,12 +70,14 @@ impl Tree {
             home,
             begun: 0,
             opened: Vec::new(heap),
+            spare: Vec::new(heap),
             cells: Vec::new(heap),
             forms: Vec::new(heap),
         }
     }
 
-    /// A refusal at an offset.
+    /// A refusal at an offset. It ends the reading, so that it is kept out of the way of each byte.
+    #[cold]
     pub(crate) fn refuse(&self, cause: Cause, at: usize) -> ReadFault
         ensures { RefusedAs {A = Progress} (refused cause at) self.now.home.«module» result }
     {
@@ -100,7 +118,11 @@ impl Tree {
     pub(crate) fn open_list(&mut self, at: usize) -> Result<(), ReadFault>
         ensures { Steps (λ _ p. nest p at (bracket [])) self.old self.new result }
     {
-        let items = Vec::new(*self.cells.allocator());
+        let mut items = match self.spare.pop() {
+            Some(items) => items,
+            None => Vec::new(*self.cells.allocator()),
+        };
+        items.clear();
         self.open(Open::List(items), at)
     }
 
@@ -145,6 +167,7 @@ impl Tree {
         match self.opened.pop() {
             Some(Open::List(items)) => {
                 let list = push_list(&mut self.cells, &items)?;
+                keep_short(&mut self.spare, items)?;
                 self.add(list)
             }
             Some(Open::Quote) | None => Err(self.refuse(Cause::Unbalanced, at)),

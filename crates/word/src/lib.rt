@@ -40,7 +40,7 @@ fn is_word(bytes: &[u8]) -> bool
     ensures { result ≡ is_word bytes.now }
 {
     match bytes {
-        [first, rest @ ..] => is_letter(*first) && are_item_bytes(rest) && bytes.len() <= 12,
+        [first, rest @ ..] => bytes.len() <= 12 && is_letter(*first) && are_item_bytes(rest),
         [] => false,
     }
 }

@@ -9,12 +9,11 @@ use Rattle.text.proofs.show.Writer.+put_datum_put_rest.Goals.{put_datum-then-i-b
 pub put_datum-returns-in-Number-clause-written : goal.put_datum-returns-in-Number-clause-written
 put_datum-returns-in-Number-clause-written t c =
     let same : to_z w32 (of_z w32 c.in-Number.n) ≡ c.in-Number.n = search rules in
-    let bytes = c.as_bytes.ensures.value ∙ c.in_ok-digits-in-Number.ensures.ok ∙ ap signed_decimal same in
-    extended c.extend_from_slice.result _ _ _ _ _ _ _ c.extend_from_slice.ensures.items (λ d m. bytes ∙ number_shown c.args.self.now.cells.now c.args.below c.args.value _ d c.in-Number.is m)
+    extended c.put_number.result _ _ _ _ _ _ _ c.put_number.ensures (λ d m. ap signed_decimal same ∙ number_shown c.args.self.now.cells.now c.args.below c.args.value _ d c.in-Number.is m)
 
 pub put_datum-returns-in-Word-clause-written : goal.put_datum-returns-in-Word-clause-written
 put_datum-returns-in-Word-clause-written t c =
-    extended c.extend_from_slice-in-Word.result _ _ _ _ _ _ _ c.extend_from_slice-in-Word.ensures.items (λ d m. c.as_bytes-in-Word.ensures ∙ word_shown c.args.self.now.cells.now c.args.below c.args.value _ d c.in-Word.is m)
+    extended c.extend_from_slice.result _ _ _ _ _ _ _ c.extend_from_slice.ensures.items (λ d m. c.as_bytes.ensures ∙ word_shown c.args.self.now.cells.now c.args.below c.args.value _ d c.in-Word.is m)
 
 pub put_datum-returns-in-Empty-clause-written : goal.put_datum-returns-in-Empty-clause-written
 put_datum-returns-in-Empty-clause-written t c =
