@@ -20,12 +20,6 @@ each_push R [] (b ∷ ys) x y e r = absurd e
 each_push R (a ∷ xs) [] x y e r = absurd e
 each_push R (a ∷ xs) (b ∷ ys) x y e r = (e.0, each_push R xs ys x y e.1 r)
 
-pub each_length : {A B : Type 0} (R : A → B → Type 0) (xs : List A) (ys : List B) → Each R xs ys → length xs ≡ length ys
-each_length R [] [] e = refl
-each_length R [] (b ∷ ys) e = absurd e
-each_length R (a ∷ xs) [] e = absurd e
-each_length R (a ∷ xs) (b ∷ ys) e = let l = each_length R xs ys e.1 in omega arith
-
 -- the last of both lists
 pub record Last {A B : Type 0} (R : A → B → Type 0) (xs : List A) (x : A) (ys : List B) : Type 0 where
   pub before : List B

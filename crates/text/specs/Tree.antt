@@ -1,5 +1,5 @@
 -- How the tree of a text that is being read stands for what the rules say has been read. Assumes nothing.
-use Rattle.std.specs.Prelude.{◌≡◌, ℕ, ◌≤◌, List, reverse, Some, Ok, Err, vec_items, Result}
+use Rattle.std.specs.Prelude.{◌≡◌, ℕ, ◌≤◌, List, [], ◌∷◌, length, drop, take, reverse, Some, Ok, Err, vec_items, Result}
 use Rattle.rules.specs.declared.cause.Cause.{Cause}
 use Rattle.rules.specs.Words.{Home}
 use Rattle.rules.specs.Reading.{Read, reads, refused, Open as PureOpen, bracket, quoted, Progress}
@@ -7,6 +7,7 @@ use Rattle.rules.specs.Reading.{Form as PureForm}
 use Rattle.rules.specs.Refusals.{placed}
 use Rattle.word.specs.declared.Word.{Word}
 use Rattle.text.specs.declared.data.Cell.{Cell}
+use Rattle.text.specs.declared.data.Value.{Value}
 use Rattle.text.specs.declared.refusal.ReadFault.{ReadFault}
 use Rattle.text.specs.declared.tree.Open.{Open}
 use Rattle.text.specs.declared.tree.Form.{Form}
@@ -24,20 +25,29 @@ FormIs cs f g = (f.offset ≡ g.offset) × Stands cs f.datum g.datum
 abbrev pub Forms : List Cell → List Form → List PureForm → Type 0
 Forms cs = Each (FormIs cs)
 
--- a list or a quote that is open; the rules have a list's data newest first
-abbrev pub OpenIs : List Cell → Open → PureOpen → Type 0
-OpenIs cs (Open.List vs) (bracket ds) = Each (Stands cs) (vec_items vs) (reverse ds)
-OpenIs cs (Open.List vs) quoted = ⊥
-OpenIs cs Open.Quote (bracket ds) = ⊥
-OpenIs cs Open.Quote quoted = Unit {0}
+-- a list or a quote that opens after so many values, and as nothing of it has been read
+abbrev pub Opens : ℕ → Open → PureOpen → Type 0
+Opens n (Open.List before) (bracket []) = before ≡ n
+Opens n (Open.List before) (bracket (d ∷ ds)) = ⊥
+Opens n (Open.List before) quoted = ⊥
+Opens n Open.Quote (bracket ds) = ⊥
+Opens n Open.Quote quoted = Unit {0}
 
--- the open lists and quotes, innermost first
-abbrev pub Opened : List Cell → List Open → List PureOpen → Type 0
-Opened cs = Each (OpenIs cs)
+-- the open lists and quotes, innermost first, with the values of all these lists and no other; the rules have a list's data newest first
+abbrev pub Opened : List Cell → List Value → List Open → List PureOpen → Type 0
+Opened cs [] [] [] = Unit {0}
+Opened cs (v ∷ vs) [] [] = ⊥
+Opened cs vs [] (q ∷ qs) = ⊥
+Opened cs vs (Open.Quote ∷ os) [] = ⊥
+Opened cs vs (Open.Quote ∷ os) (quoted ∷ qs) = Opened cs vs os qs
+Opened cs vs (Open.Quote ∷ os) (bracket ds ∷ qs) = ⊥
+Opened cs vs (Open.List before ∷ os) [] = ⊥
+Opened cs vs (Open.List before ∷ os) (quoted ∷ qs) = ⊥
+Opened cs vs (Open.List before ∷ os) (bracket ds ∷ qs) = (before ≤ length vs) × Each (Stands cs) (drop before vs) (reverse ds) × Opened cs (take before vs) os qs
 
 -- a tree stands for what has been read
 pub record Built (t : Tree) (p : Progress) : Type 0 where
-  pub opened : Opened (vec_items t.cells) (reverse (vec_items t.opened)) p.opened
+  pub opened : Opened (vec_items t.cells) (vec_items t.values) (reverse (vec_items t.opened)) p.opened
   pub begun : t.begun ≡ p.begun
   pub forms : Forms (vec_items t.cells) (vec_items t.forms) (reverse p.forms)
 

@@ -1,20 +1,20 @@
 //! The data of a text, as they are put together.
-ghost use Rattle.std.specs.Prelude.{◌≡◌, [], ◌∷◌, ◌++◌, length, if◌then◌else◌, Some, nat_eq, nat_le, OnOk};
+ghost use Rattle.std.specs.Prelude.{◌≡◌, [], length, if◌then◌else◌, Some, nat_eq};
 ghost use Rattle.rules.specs.Words.{Datum};
 ghost use Rattle.rules.specs.Reading.{Open as PureOpen, Progress, bracket, quoted, reads, refused, nothing_read, nest, close, settle, placed, ended};
 ghost use Rattle.text.specs.Data.{Stands};
-ghost use Rattle.text.specs.Tree.{OpenIs, Built, Steps, Ends, RefusedAs};
+ghost use Rattle.text.specs.Tree.{Opens, Built, Steps, Ends, RefusedAs};
 
 use crate::data::{Cell, Value, push_list, push_quote};
 use crate::refusal::{ReadFault, Refusal};
 use rules::Cause;
-use std::alloc::{AllocError, Global};
+use std::alloc::Global;
 use word::Home;
 
-/// A list or a quote that is still open; a list has what was read of it so far.
-#[derive(Debug, Drop)]
+/// A list or a quote that is still open; of a list, how many values of the lists around it had been read before.
+#[derive(Clone, Copy, PartialEq, Eq, Debug)]
 pub(crate) enum Open {
-    List(Vec<Value>),
+    List(usize),
     Quote,
 }
 
@@ -40,24 +40,11 @@ pub(crate) struct Tree {
     begun: usize,
     // innermost last
     opened: Vec<Open>,
-    // of short lists that closed: their memory serves those that open next
-    spare: Vec<Vec<Value>>,
+    // what was read of the lists that are open, innermost last: one memory, since an allocation for each list would cost
+    // more than to read it
+    values: Vec<Value>,
     cells: Vec<Cell>,
     forms: Vec<Form>,
-}
-
-// How many values a list may have had whose memory is kept.
-const SHORT: usize = 16;
-
-// Keeps the memory of a list, if it is short: most lists are, and an allocation for each would cost more than to read it. A
-// long one lets its memory go, so that all that is kept is little.
-fn keep_short(spare: &mut Vec<Vec<Value>>, items: Vec<Value>) -> Result<(), AllocError>
-    ensures { OnOk result (spare.new.items ≡ (if nat_le (length items.items) 16 then spare.old.items ++ (items ∷ []) else spare.old.items)) }
-{
-    if items.len() <= SHORT {
-        spare.push(items)?;
-    }
-    Ok(())
 }
 
 impl Tree {
@@ -70,7 +57,7 @@ impl Tree {
             home,
             begun: 0,
             opened: Vec::new(heap),
-            spare: Vec::new(heap),
+            values: Vec::new(heap),
             cells: Vec::new(heap),
             forms: Vec::new(heap),
         }
@@ -104,7 +91,7 @@ impl Tree {
 
     // A list or a quote opens at an offset.
     fn open(&mut self, part: Open, at: usize) -> Result<(), ReadFault>
-        ensures { (o : PureOpen) → OpenIs self.old.cells.items part o → Steps (λ _ p. nest p at o) self.old self.new result }
+        ensures { (o : PureOpen) → Opens (length self.old.values.items) part o → Steps (λ _ p. nest p at o) self.old self.new result }
     {
         if self.opened.len() >= 64 {
             return Err(self.refuse(Cause::NestedTooDeep, at));
@@ -118,12 +105,8 @@ impl Tree {
     pub(crate) fn open_list(&mut self, at: usize) -> Result<(), ReadFault>
         ensures { Steps (λ _ p. nest p at (bracket [])) self.old self.new result }
     {
-        let mut items = match self.spare.pop() {
-            Some(items) => items,
-            None => Vec::new(*self.cells.allocator()),
-        };
-        items.clear();
-        self.open(Open::List(items), at)
+        let before = self.values.len();
+        self.open(Open::List(before), at)
     }
 
     /// A quote opens at an offset.
@@ -140,9 +123,9 @@ impl Tree {
         'around: while let Some(inner) = self.opened.pop() {
             match inner {
                 Open::Quote => datum = push_quote(&mut self.cells, self.home, datum)?,
-                Open::List(mut items) => {
-                    items.push(datum)?;
-                    self.opened.push(Open::List(items))?;
+                Open::List(_) => {
+                    self.opened.push(inner)?;
+                    self.values.push(datum)?;
                     return Ok(());
                 }
             }
@@ -165,9 +148,11 @@ impl Tree {
         ensures { Steps (λ h p. close h at p.begun p.forms p.opened) self.old self.new result }
     {
         match self.opened.pop() {
-            Some(Open::List(items)) => {
-                let list = push_list(&mut self.cells, &items)?;
-                keep_short(&mut self.spare, items)?;
+            Some(Open::List(before)) => {
+                // so many there are; `min` shows it with nothing known of the tree
+                let before = before.min(self.values.len());
+                let list = push_list(&mut self.cells, &self.values[before..])?;
+                self.values.truncate(before);
                 self.add(list)
             }
             Some(Open::Quote) | None => Err(self.refuse(Cause::Unbalanced, at)),

@@ -4,4 +4,4 @@ use Rattle.text.proofs.Trees.{item_begun}
 use Rattle.text.proofs.tree.Tree.item.Goals as goal
 
 pub returns : goal.returns
-returns c d s p b = c.add.ensures d s _ (item_begun c.args.self.now _ c.args.at (record { home = refl; grown = grows_not _; forms = refl }) c.start-self.ensures refl p b)
+returns c d s p b = c.add.ensures d s _ (item_begun c.args.self.now _ c.args.at (record { home = refl; grown = grows_not _; forms = refl }) c.start-self.ensures refl refl p b)
